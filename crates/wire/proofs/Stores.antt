@@ -1,0 +1,93 @@
+-- The laws of stores: what is stored is what is read back, and all else stays. Assumes nothing.
+use mathlib.Core.Path.{_≡_, refl, sym, ap, _∙_}
+use mathlib.Core.List.{List, [], _∷_, _++_, append-nil}
+use Prim.Native.Nat.{ℕ, zero, suc, _+_, _-_, _^_, _≤_, _<_}
+use native.Mathlib.Nat.{add-zero, zero-add, suc-add, add-suc}
+use native.Mathlib.Numerals.{add-one}
+use native.Mathlib.Omega.{arith}
+use lib.ListN.{length, getD, take, drop, set, length-set, length-drop, take-append-drop, drop-of-length-le}
+use lib.Seq.{sets-eq, set-out, getD-set-same, getD-set-other, take-all, take-set-le, drop-set-add}
+use borrow.Rule.Slice.PartMut.{midOf, postOf, putMid}
+use Rattle.wire.specs.Wire.{Bytes, be, bytesAt, word, beVal, putAt}
+use Rattle.wire.proofs.Numbers.{length-be, beVal-be}
+
+-- stores past the end go nowhere
+pub putAt-out : (out : List ℕ) (at : ℕ) (src : List ℕ) → length out ≤ at → putAt out at src ≡ out
+putAt-out out at [] h = refl
+putAt-out out at (b ∷ src) h = rw (set-out out at b h) (putAt-out out (suc at) src (omega arith))
+
+-- stores one after the other are the store of the joined bytes
+pub putAt-append : (out : List ℕ) (at : ℕ) (a b : List ℕ) → putAt out at (a ++ b) ≡ putAt (putAt out at a) (at + length a) b
+putAt-append out at [] b = rw add-zero
+putAt-append out at (x ∷ a) b = rw (putAt-append (set out at x) (suc at) a b, add-suc, suc-add)
+
+-- a byte outside the stored ones stays
+pub putAt-before : (out : List ℕ) (at : ℕ) (src : List ℕ) (i : ℕ) → i < at → getD (putAt out at src) i 0 ≡ getD out i 0
+putAt-before out at [] i h = refl
+putAt-before out at (b ∷ src) i h =
+    putAt-before (set out at b) (suc at) src i (omega arith) ∙ getD-set-other out at i b 0 (λ e. omega arith)
+
+pub putAt-after : (out : List ℕ) (at : ℕ) (src : List ℕ) (i : ℕ) → at + length src ≤ i → getD (putAt out at src) i 0 ≡ getD out i 0
+putAt-after out at [] i h = refl
+putAt-after out at (b ∷ src) i h =
+    putAt-after (set out at b) (suc at) src i (omega arith) ∙ getD-set-other out at i b 0 (λ e. omega arith)
+
+-- a stored byte is there
+pub putAt-within : (out : List ℕ) (at : ℕ) (src : List ℕ) (i : ℕ) → i < length src → at + i < length out → getD (putAt out at src) (at + i) 0 ≡ getD src i 0
+putAt-within out at [] i h l = absurd (omega arith)
+putAt-within out at (b ∷ src) zero h l =
+    let e : at < length out = omega arith in
+    rw add-zero (putAt-before (set out at b) (suc at) src at (omega arith) ∙ getD-set-same out at b 0 e)
+putAt-within out at (b ∷ src) (suc i) h l =
+    let e : at + suc i ≡ suc at + i = omega arith in
+    rw e (putAt-within (set out at b) (suc at) src i (omega arith) (rw length-set (omega arith)))
+
+-- bytes stored among bytes are bytes
+set-bytes : (l : List ℕ) (j b : ℕ) → Bytes l → b < 256 → Bytes (set l j b)
+set-bytes [] j b hl hb i = hl i
+set-bytes (x ∷ l) zero b hl hb zero = hb
+set-bytes (x ∷ l) zero b hl hb (suc i) = hl (suc i)
+set-bytes (x ∷ l) (suc j) b hl hb zero = hl 0
+set-bytes (x ∷ l) (suc j) b hl hb (suc i) = set-bytes l j b (λ k. hl (suc k)) hb i
+
+pub putAt-bytes : (out : List ℕ) (at : ℕ) (src : List ℕ) → Bytes out → Bytes src → Bytes (putAt out at src)
+putAt-bytes out at [] ho hs = ho
+putAt-bytes out at (b ∷ src) ho hs = putAt-bytes (set out at b) (suc at) src (set-bytes out at b ho (hs 0)) (λ i. hs (suc i))
+
+-- what is stored is read back
+pub bytesAt-putAt : (out : List ℕ) (at : ℕ) (src : List ℕ) → at + length src ≤ length out → bytesAt (length src) (putAt out at src) at ≡ src
+bytesAt-putAt out at [] h = refl
+bytesAt-putAt out at (b ∷ src) h =
+    let l : at < length out = omega arith in
+    let first : getD (putAt (set out at b) (suc at) src) at 0 ≡ b = putAt-before (set out at b) (suc at) src at (omega arith) ∙ getD-set-same out at b 0 l in
+    rw (first, add-one) (ap (λ (r : List ℕ). b ∷ r) (bytesAt-putAt (set out at b) (suc at) src (rw length-set (omega arith))))
+
+-- a number that fits w bytes is read back where its bytes were stored
+pub word-putAt : (w : ℕ) (out : List ℕ) (at n : ℕ) → n < 256 ^ w → at + w ≤ length out → word w (putAt out at (be w n)) at ≡ n
+word-putAt w out at n h l =
+    let k : bytesAt (length (be w n)) (putAt out at (be w n)) at ≡ be w n = bytesAt-putAt out at (be w n) (rw length-be l) in
+    ap beVal (rw length-be at k) ∙ beVal-be w n h
+
+-- a store in the part from `from` on is a store in the whole
+pub putAt-part : (out : List ℕ) (from at : ℕ) (src : List ℕ) → take from out ++ putAt (drop from out) at src ≡ putAt out (from + at) src
+putAt-part out from at [] = take-append-drop from out
+putAt-part out from at (b ∷ src) =
+    let whole : List ℕ = set out (from + at) b in
+    let front : take from whole ≡ take from out = take-set-le from out (from + at) b (omega arith) in
+    let back : drop from whole ≡ set (drop from out) at b = drop-set-add from out at b in
+    let e : from + suc at ≡ suc (from + at) = omega arith in
+    rw (← front, ← back, ← e) (putAt-part whole from (suc at) src)
+
+-- a store of just as many bytes as there are leaves those bytes
+pub putAt-all : (out src : List ℕ) → length src ≡ length out → putAt out 0 src ≡ src
+putAt-all out src e =
+    sets-eq src out 0 (omega arith)
+    ∙ rw (zero-add, drop-of-length-le out {i = length src} (omega arith)) (append-nil src)
+
+-- what a part that is lent up to the end comes back with is a store in the whole
+pub putAt-lent : (out : List ℕ) (at : ℕ) (src : List ℕ) →
+    putMid at (length out - at) out (putAt (midOf at (length out - at) out) 0 src) ≡ putAt out at src
+putAt-lent out at src =
+    let all : midOf at (length out - at) out ≡ drop at out = take-all (length out - at) (drop at out) (rw length-drop (omega arith)) in
+    let none : postOf at (length out - at) out ≡ [] = drop-of-length-le (drop at out) {i = length out - at} (rw length-drop (omega arith)) in
+    rw (all, none) (ap (λ (l : List ℕ). take at out ++ l) (append-nil (putAt (drop at out) 0 src)) ∙ putAt-part out at 0 src ∙ rw add-zero)
