@@ -1,0 +1,60 @@
+//! Answers a script, and holds the one table of operations.
+
+use std::io::{self, BufWriter, Read, Write};
+
+use crate::language::{self, SCRIPT_LIMIT};
+use crate::operations::checksum;
+
+/// Reads a script up to the limit and prints one line for each operation.
+pub fn answer(script: impl Read, answers: impl Write) -> io::Result<()> {
+    let mut text = Vec::new();
+    script.take(SCRIPT_LIMIT as u64).read_to_end(&mut text)?;
+
+    let mut answers = BufWriter::new(answers);
+    for line in language::lines(&text) {
+        let answer = operation(&language::words(line));
+        writeln!(answers, "{}", answer.as_deref().unwrap_or("bad"))?;
+    }
+    answers.flush()
+}
+
+/// Runs the operation that the first word names, if the number of words is right and each is good.
+fn operation(words: &[&[u8]]) -> Option<String> {
+    match words {
+        [b"crc", part] => checksum::crc(part),
+        [b"crc_joined", first, second] => checksum::crc_joined(first, second),
+        _ => None,
+    }
+}
+
+#[cfg(test)]
+mod tests {
+    use super::*;
+
+    fn answers(script: &str) -> String {
+        let mut printed = Vec::new();
+        answer(script.as_bytes(), &mut printed).unwrap();
+        String::from_utf8(printed).unwrap()
+    }
+
+    #[test]
+    fn the_published_check_value() {
+        let whole = answers("crc 313233343536373839\n");
+        assert_eq!(whole, "0 0 0 : cbf43926\n");
+        assert_eq!(answers("crc_joined 3132333435 36373839"), whole);
+        assert_eq!(answers("crc_joined - 313233343536373839"), whole);
+    }
+
+    #[test]
+    fn every_line_but_comments_and_empty_ones_is_answered() {
+        let script = "# c\n\ncrc -\ncrc\nCRC -\ncrc - -\n crc -\ncrc - ";
+        assert_eq!(answers(script), "0 0 0 : 00000000\nbad\nbad\nbad\nbad\nbad\n");
+    }
+
+    #[test]
+    fn what_lies_beyond_the_limit_is_not_read() {
+        let filler = "\n".repeat(SCRIPT_LIMIT - "crc 00".len());
+        assert_eq!(answers(&format!("{filler}crc 00ff\n")), answers("crc 00"));
+        assert_eq!(answers(&format!("{filler}crc -\n\ncrc -")), answers("crc -"));
+    }
+}

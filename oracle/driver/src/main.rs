@@ -1,0 +1,60 @@
+//! The Rust side of the comparison: answers scripts of the replay language by running the upstream
+//! code, writes the scripts, and compares two files of answers.
+
+mod answer;
+mod compare;
+mod language;
+mod operations;
+mod random;
+mod scripts;
+
+use std::path::Path;
+use std::process::ExitCode;
+use std::{env, fs, io};
+
+const USAGE: &str = "answer | scripts FAMILY SEED FOLDER | compare PORT RUST";
+
+fn main() -> ExitCode {
+    let arguments: Vec<String> = env::args().skip(1).collect();
+    let words: Vec<&str> = arguments.iter().map(String::as_str).collect();
+
+    let done = match words[..] {
+        ["answer"] => answer::answer(io::stdin(), io::stdout()).map(|()| true),
+        ["scripts", family, seed, folder] => write_scripts(family, seed, Path::new(folder)),
+        ["compare", port, rust] => compare_files(Path::new(port), Path::new(rust)),
+        _ => Err(io::Error::new(io::ErrorKind::InvalidInput, USAGE)),
+    };
+
+    match done {
+        Ok(true) => ExitCode::SUCCESS,
+        Ok(false) => ExitCode::from(1),
+        Err(error) => {
+            eprintln!("oracle: {error}");
+            ExitCode::from(2)
+        }
+    }
+}
+
+fn write_scripts(family: &str, seed: &str, folder: &Path) -> io::Result<bool> {
+    let unknown = |what: &str| io::Error::new(io::ErrorKind::InvalidInput, what);
+    let seed = language::number(seed.as_bytes()).ok_or_else(|| unknown("SEED is no number"))?;
+    let scripts = scripts::family(family, seed).ok_or_else(|| unknown("no such FAMILY"))?;
+
+    fs::create_dir_all(folder)?;
+    for (index, script) in scripts.iter().enumerate() {
+        fs::write(folder.join(format!("{:04}.script", index + 1)), script)?;
+    }
+    Ok(true)
+}
+
+/// Says how many lines were equal, or where the first difference is.
+fn compare_files(port: &Path, rust: &Path) -> io::Result<bool> {
+    match compare::compare(&fs::read(port)?, &fs::read(rust)?) {
+        Ok(equal) => println!("lines={} skipped={}", equal.lines, equal.skipped),
+        Err(difference) => {
+            println!("{difference}");
+            return Ok(false);
+        }
+    }
+    Ok(true)
+}

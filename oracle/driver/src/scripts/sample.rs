@@ -1,0 +1,53 @@
+//! The family `sample`: one small script that is kept with the port and replayed where no Rust is.
+
+use super::spellings::ODD_LINES;
+use super::{crc, crc_joined, packed, Line, Script};
+use crate::random::Random;
+
+/// The bytes whose CRC-32 is published with the definition, cbf43926.
+const CHECK: &[u8] = b"123456789";
+
+pub fn scripts(random: &mut Random) -> Vec<Script> {
+    let mut lines = vec![comment("The published check value, whole and cut in two.")];
+    lines.push(crc(CHECK));
+    lines.extend(splits(CHECK));
+    lines.push(comment("Random bytes, by length."));
+    lines.extend(lengths().map(|len| crc(&random.bytes(len))));
+    lines.push(comment("Zeros and ones."));
+    lines.extend([1, 2, 3, 4, 8, 64].map(|len| crc(&vec![0; len])));
+    lines.extend([1, 2, 3, 4, 8, 64].map(|len| crc(&vec![0xff; len])));
+    lines.push(comment("Longer parts, cut in two."));
+    lines.extend([12, 28, 52, 300].iter().flat_map(|len| some_splits(&random.bytes(*len))));
+    lines.push(comment("Odd spellings; the last line has no newline."));
+    lines.extend(printable_odd_lines());
+
+    let mut script = packed(lines).concat();
+    script.extend(crc(CHECK));
+    vec![script]
+}
+
+fn comment(text: &str) -> Line {
+    format!("# {text}").into_bytes()
+}
+
+/// Around the sizes of words, tables and blocks; 4096 is the longest, a page.
+fn lengths() -> impl Iterator<Item = usize> {
+    (0..=40).chain(127..=129).chain(255..=257).chain([1034, 4096])
+}
+
+/// The part cut at every place.
+fn splits(part: &[u8]) -> impl Iterator<Item = Line> + '_ {
+    (0..=part.len()).map(|cut| crc_joined(&part[..cut], &part[cut..]))
+}
+
+/// The part cut at its ends, next to them and in the middle.
+fn some_splits(part: &[u8]) -> [Line; 5] {
+    let len = part.len();
+    [0, 1, len / 2, len - 1, len].map(|cut| crc_joined(&part[..cut], &part[cut..]))
+}
+
+/// Only what a text file holds, since the sample is kept as one.
+fn printable_odd_lines() -> impl Iterator<Item = Line> {
+    let printable = |line: &&&str| line.bytes().all(|byte| matches!(byte, b' '..=b'~'));
+    ODD_LINES.iter().filter(printable).map(|line| line.as_bytes().to_vec())
+}
