@@ -1,0 +1,4 @@
+pub mod Digit
+pub mod Decimal
+pub mod Hex
+pub mod Line
