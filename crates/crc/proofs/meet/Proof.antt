@@ -1,12 +1,10 @@
 -- `crc::meet` meets its contract: the word goes into the sum of the register and what waits for it.
 -- Assumes nothing.
-use mathlib.Core.Path.{sym, ap, _∙_}
-use Prim.Native.Nat.{ℕ, _+_}
-use lib.ListN.{drop}
+use mathlib.Core.Path.{ap, _∙_}
+use Prim.Native.Nat.{ℕ}
 use lib.Bits.{bitXor}
 use borrow.Author.Needs.{needs}
-use Rattle.crc.specs.Crc.{shifts, bytesIn}
-use Rattle.crc.specs.Words.{above}
+use Rattle.crc.specs.Crc.{shifts}
 use Rattle.crc.proofs.Parts.{meets}
 use Rattle.crc.proofs.meet.Statement.{statement}
 use Rattle.crc.proofs.meet.Tie as tie

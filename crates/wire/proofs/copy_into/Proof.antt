@@ -1,7 +1,7 @@
 -- `wire::copy_into` meets its contract. The loop's invariant: storing the rest of src from here on is storing all of it
 -- from the start. Where the loop ends, nothing is left of src, or nothing of out. Assumes nothing.
 use mathlib.Core.Path.{_≡_, refl, sym, _∙_}
-use mathlib.Core.Logic.{⊎-elim}
+use mathlib.Core.Logic.{_⊎_, inl, inr}
 use mathlib.Core.List.{List}
 use Prim.Native.Nat.{ℕ, _+_, _≤_, _<_, _-_}
 use native.Mathlib.Numerals.{add-one}
@@ -18,8 +18,10 @@ use Rattle.wire.proofs.copy_into.Tie as tie
 turn : (out src : List ℕ) (i : ℕ) → i < length src → putAt out i (drop i src) ≡ putAt (set out i (getD src i 0)) (i + 1) (drop (i + 1) src)
 turn out src i h = rw (drop-cons src i 0, add-one)
 
-done : (out src : List ℕ) (i : ℕ) → length src ≤ i → putAt out i (drop i src) ≡ out
-done out src i h = rw (drop-of-length-le src h)
+-- where the smaller of the two lengths is reached, nothing is left to store, or no place to store it
+ended : (out src : List ℕ) (size n i : ℕ) → length out ≡ size → n ≤ i → (size ≤ n) ⊎ (length src ≤ n) → putAt out i (drop i src) ≡ out
+ended out src size n i e l (inl h) = putAt-out out i (drop i src) (omega arith)
+ended out src size n i e l (inr h) = rw (drop-of-length-le src {i = i} (omega arith))
 
 abbrev Inv-loop : tie.InvT-loop
 Inv-loop out₀ src n i₀ out i = (i ≤ n) × ((length out ≡ length out₀) × (putAt out i (drop i src) ≡ putAt out₀ 0 src))
@@ -66,12 +68,8 @@ returns c =
     let l = c .before in
     let m = l .before in
     let a = m .before .before .before .args in
-    let i = l .loop .i in
-    let o = l .loop .out in
-    let ended : putAt o i (drop i (now (a .src))) ≡ o =
-    ⊎-elim (λ h. putAt-out o i (drop i (now (a .src))) (omega arith)) (λ h. done o (now (a .src)) i (omega arith)) (m .smaller .ensures .2)
-    in
-    sym ended ∙ l .loop .inv .1 .1
+    sym (ended (l .loop .out) (now (a .src)) (length (now (a .out))) _ _ (l .loop .inv .1 .0) (c .loop-test .left) (m .smaller .ensures .2))
+    ∙ l .loop .inv .1 .1
 
 pub copy-into-spec : {M : Type 1} → statement M
 copy-into-spec =

@@ -1,8 +1,8 @@
 -- `wire::fill` meets its contract. The loop's invariant: the first i bytes are the value, and the others as they were.
 -- Assumes nothing.
-use mathlib.Core.Path.{_≡_, refl, sym, _∙_}
+use mathlib.Core.Path.{_≡_, refl, _∙_}
 use mathlib.Core.List.{_++_, append-nil}
-use Prim.Native.Nat.{ℕ, _≤_, _-_}
+use Prim.Native.Nat.{_≤_, _-_}
 use native.Mathlib.Omega.{arith}
 use lib.ListN.{length, drop, length-set, replicate, drop-of-length-le}
 use borrow.Author.Needs.{needs}

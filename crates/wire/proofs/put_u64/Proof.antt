@@ -1,8 +1,6 @@
 -- `wire::put_u64` meets its contract: what `put` stores are the bytes of v.
 -- Assumes nothing.
 use mathlib.Core.Path.{ap, _∙_}
-use mathlib.Core.List.{List}
-use Prim.Native.Nat.{ℕ}
 use denote.Ref.{now}
 use borrow.Author.Needs.{needs}
 use Rattle.wire.specs.Wire.{putAt}

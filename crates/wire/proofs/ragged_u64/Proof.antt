@@ -4,7 +4,7 @@ use mathlib.Core.Path.{refl, ap, _∙_}
 use mathlib.Core.List.{[]}
 use native.Mathlib.Nat.{add-zero}
 use denote.Ref.{now}
-use Rattle.wire.specs.Wire.{beVal, word, bytesAt}
+use Rattle.wire.specs.Wire.{beVal, word}
 use Rattle.wire.proofs.Numbers.{bytesAt-cons}
 use borrow.Author.Needs.{needs}
 use Rattle.wire.proofs.ragged_u64.Statement.{statement}
