@@ -1,7 +1,7 @@
 -- What a word spells whose digits so far make n and that goes on with s: the laws that a scan from left to right goes by.
 -- Assumes nothing.
-use mathlib.Core.Path.{_≡_, refl}
-use mathlib.Core.Bool.{Bool, true, false, cond, _&&_}
+use mathlib.Core.Path.{_≡_}
+use mathlib.Core.Bool.{cond, _&&_, and-false}
 use mathlib.Core.List.{List, [], _∷_}
 use Prim.Native.Nat.{ℕ, suc, _+_, _*_, _^_, _≤_, _<_}
 use native.Mathlib.Omega.{arith}
@@ -41,13 +41,9 @@ unfolding valueOnto
 value-grows n [] = omega arith
 value-grows n (b ∷ s) = omega (arith, value-grows (n * 10 + worthOf b) s)
 
-unmet : (b : Bool) (x y : Number) → cond (b && false) x y ≡ y
-unmet true x y = refl
-unmet false x y = refl
-
 pub number-large : (n : ℕ) (s : List ℕ) → 2 ^ 64 ≤ n → goesOn n s ≡ Bad
 unfolding goesOn
-number-large n s h = rw (le-ltb (valueOnto n s) (2 ^ 64) (omega (arith, value-grows n s))) (unmet (allBelow 10 s) _ _)
+number-large n s h = rw (le-ltb (valueOnto n s) (2 ^ 64) (omega (arith, value-grows n s)), and-false)
 
 pub number-ends : (n : ℕ) → n < 2 ^ 64 → goesOn n [] ≡ Of n
 unfolding goesOn valueOnto allBelow

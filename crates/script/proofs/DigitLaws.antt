@@ -1,7 +1,7 @@
 -- The laws by which a scan learns that every byte is a digit of its base, each stated once over the base.
 -- Assumes nothing.
-use mathlib.Core.Path.{_≡_, refl}
-use mathlib.Core.Bool.{Bool, true, false, _&&_, false≢true}
+use mathlib.Core.Path.{_≡_}
+use mathlib.Core.Bool.{true, false, and-eq-true-iff}
 use mathlib.Core.List.{List, [], _∷_}
 use Prim.Native.Nat.{ℕ, zero, suc, _≤_, _<_}
 use native.Mathlib.Omega.{arith}
@@ -10,11 +10,6 @@ use lib.ListN.{length, getD, drop}
 use lib.Seq.{drop-cons}
 use borrow.Author.Tests.{lt-ltb, le-ltb, ltb-true}
 use Rattle.script.specs.Digit.{worthOf, allBelow}
-
--- both tests of a passed `&&` passed
-pub both : (a b : Bool) → (a && b) ≡ true → (a ≡ true) × (b ≡ true)
-both true b e = (refl, e)
-both false b e = absurd (false≢true e)
 
 module _ (base : ℕ) where
   module _ (s : List ℕ) (i : ℕ) (h : i < length s) where
@@ -29,5 +24,5 @@ module _ (base : ℕ) where
   pub below-at : (s : List ℕ) (i : ℕ) → allBelow base s ≡ true → i < length s → worthOf (getD s i 0) < base
   unfolding allBelow
   below-at [] i e h = absurd (omega arith)
-  below-at (b ∷ s) zero e h = ltb-true (worthOf b) base (both (ltb (worthOf b) base) (allBelow base s) e .0)
-  below-at (b ∷ s) (suc i) e h = below-at s i (both (ltb (worthOf b) base) (allBelow base s) e .1) (omega arith)
+  below-at (b ∷ s) zero e h = ltb-true (worthOf b) base (and-eq-true-iff (ltb (worthOf b) base) (allBelow base s) .0 e .0)
+  below-at (b ∷ s) (suc i) e h = below-at s i (and-eq-true-iff (ltb (worthOf b) base) (allBelow base s) .0 e .1) (omega arith)

@@ -1,7 +1,7 @@
 -- The bytes that pairs of hex digits spell: how many they are, each by its two digits, and what a word answers by its tests.
 -- Assumes nothing.
 use mathlib.Core.Path.{_≡_, refl, _∙_}
-use mathlib.Core.Bool.{true, false, _&&_}
+use mathlib.Core.Bool.{true, false, _&&_, and-eq-true-iff}
 use mathlib.Core.List.{List, [], _∷_, _++_}
 use Prim.Native.Nat.{ℕ, zero, suc, _+_, _*_, _/_, _%_, _≤_, _<_}
 use native.Mathlib.Omega.{arith}
@@ -11,7 +11,6 @@ use borrow.Author.Tests.{eqb-true, le-leb, lt-leb}
 use Rattle.script.specs.Digit.{worthOf, allBelow}
 use Rattle.script.specs.Hex.{isDash, isHex, unhex, bytesOf}
 use Rattle.script.specs.declared.hex.Bytes.the-variants.{Of, Bad}
-use Rattle.script.proofs.DigitLaws.{both}
 
 pub unhex-length : (s : List ℕ) → length (unhex s) ≡ length s / 2
 unfolding unhex
@@ -34,14 +33,14 @@ pub unhex-dash : (s : List ℕ) → isDash s ≡ true → unhex s ≡ []
 unfolding isDash unhex
 unhex-dash [] e = refl
 unhex-dash (a ∷ []) e = refl
-unhex-dash (a ∷ b ∷ s) e = absurd (omega (arith, eqb-true (length (a ∷ b ∷ s)) 1 (both (eqb (length (a ∷ b ∷ s)) 1) (eqb a 45) e .0)))
+unhex-dash (a ∷ b ∷ s) e = absurd (omega (arith, eqb-true (length (a ∷ b ∷ s)) 1 (and-eq-true-iff (eqb (length (a ∷ b ∷ s)) 1) (eqb a 45) .0 e .0)))
 
 -- a word that is hex is pairs of digits
 pub hex-pairs : (w : List ℕ) → isHex w ≡ true → (length w % 2 ≡ 0) × (allBelow 16 w ≡ true)
 unfolding isHex
 hex-pairs w e =
-    let some = both (ltb 0 (length w)) (eqb (length w % 2) 0 && allBelow 16 w) e in
-    let pairs = both (eqb (length w % 2) 0) (allBelow 16 w) (some .1) in
+    let some = and-eq-true-iff (ltb 0 (length w)) (eqb (length w % 2) 0 && allBelow 16 w) .0 e in
+    let pairs = and-eq-true-iff (eqb (length w % 2) 0) (allBelow 16 w) .0 (some .1) in
     (eqb-true (length w % 2) 0 (pairs .0), pairs .1)
 
 -- the answer, by the tests in the order of the sentence

@@ -1,7 +1,7 @@
 -- The laws of big-endian numbers, each stated once over the width: a number that fits is the number of its bytes, and
 -- bytes are the bytes of their number; and what a list begins with stands at its front. Assumes nothing.
 use mathlib.Core.Path.{_≡_, refl, sym, ap, _∙_}
-use mathlib.Core.Bool.{Bool, true, false, _&&_}
+use mathlib.Core.Bool.{true, and-eq-true-iff}
 use mathlib.Core.List.{List, [], _∷_, _++_, append-assoc, append-nil}
 use Prim.Native.Nat.{ℕ, zero, suc, _+_, _*_, _/_, _%_, _^_, _≤_, _<_}
 use native.Mathlib.Nat.{add-zero, add-suc, zero-add, suc-add, div-add-mod', pow-suc}
@@ -118,16 +118,12 @@ bytesAt-same (suc w) s t at h =
 
 -- ---- what a list begins with
 
-both : (a b : Bool) → (a && b) ≡ true → (a ≡ true) × (b ≡ true)
-both true b e = (refl, e)
-both false b e = (e, let z : _≡_ {A = ℕ} 0 1 = cc in absurd (omega arith))
-
 -- it stands at the front
 pub startsWith-take : (s p : List ℕ) → startsWith s p ≡ true → take (length p) s ≡ p
 startsWith-take s [] e = refl
 startsWith-take [] (x ∷ p) e = let z : _≡_ {A = ℕ} 0 1 = cc in absurd (omega arith)
 startsWith-take (y ∷ s) (x ∷ p) e =
-    let b = both (eqb y x) (startsWith s p) e in
+    let b = and-eq-true-iff (eqb y x) (startsWith s p) .0 e in
     rw (eqb-true y x (b .0), startsWith-take s p (b .1))
 
 -- and what stands at the front is what it begins with
