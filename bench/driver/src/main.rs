@@ -7,7 +7,7 @@ mod zlib;
 
 use timing::race;
 
-/// An element header, a slot, a set of 256 taps, a large payload, and a part that no cache holds.
+/// An element header, a slot without its CRC, a set of 256 taps, a large payload, and 64 MiB.
 const LENGTHS: [usize; 5] = [28, 52, 1_034, 16_384, 64 << 20];
 
 fn main() {

@@ -169,18 +169,21 @@ impl Refusal {
         second: 0,
     };
 
+    // The caller's output has no room for the payload.
     pub const OUTPUT_TOO_SMALL: Refusal = Refusal {
         number: 29,
         first: 0,
         second: 0,
     };
 
+    // A commit would take the generation or the next sequence past its limit.
     pub const EXHAUSTED: Refusal = Refusal {
         number: 30,
         first: 0,
         second: 0,
     };
 
+    // Strict reading: bytes that are no slot, an element that does not link to the one before, a payload in two pieces.
     pub const NOT_A_SLOT: Refusal = Refusal {
         number: 31,
         first: 0,
