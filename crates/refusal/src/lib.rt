@@ -183,7 +183,7 @@ impl Refusal {
         second: 0,
     };
 
-    // Strict reading: bytes that are no slot, an element that does not link to the one before, a payload in two pieces.
+    // Bytes that are no slot; an element that does not link to the one before; a payload in two pieces.
     pub const NOT_A_SLOT: Refusal = Refusal {
         number: 31,
         first: 0,
