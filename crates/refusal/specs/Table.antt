@@ -8,6 +8,10 @@ use Rattle.refusal.specs.declared.Refusal.{Refusal}
 abbrev pub plain : ℕ → Refusal
 plain n = record { number = n; first = 0; second = 0 }
 
+-- nothing is refused
+abbrev pub none : Refusal
+none = plain 0
+
 -- bytes that are too few for the layout they are to hold
 abbrev pub short : Refusal
 short = plain 1

@@ -4,6 +4,7 @@
 // The table stands here and, under the same names, in specs/Table.antt; nowhere else does a number stand for itself.
 ghost use mathlib.Core.Path.{_≡_};
 ghost use Rattle.refusal.specs.Table.{plainRefusals, sequenceMismatch, fieldTooLarge, unsupportedVersion};
+ghost use Rattle.refusal.specs.Verdict.{verdictRefusal};
 
 pub struct Refusal {
     pub number: u32,
@@ -12,6 +13,13 @@ pub struct Refusal {
 }
 
 impl Refusal {
+    // What an answer that refuses nothing gives where a number is asked of it.
+    pub const NONE: Refusal = Refusal {
+        number: 0,
+        first: 0,
+        second: 0,
+    };
+
     // Bytes that are too few for the layout they are to hold.
     pub const SHORT: Refusal = Refusal {
         number: 1,
@@ -272,4 +280,22 @@ pub fn plain_refusals() -> [Refusal; 30]
         Refusal::BROKEN_LINK,
         Refusal::CROSSES_END,
     ]
+}
+
+// The answer of a call that gives nothing, or gives it elsewhere.
+pub enum Verdict {
+    Granted,
+    Refused(Refusal),
+}
+
+impl Verdict {
+    // Its number and two values.
+    pub fn refusal(self) -> Refusal
+        ensures { λ r. ⌜ r ≡ verdictRefusal self ⌝ }
+    {
+        match self {
+            Verdict::Granted => Refusal::NONE,
+            Verdict::Refused(refusal) => refusal,
+        }
+    }
 }

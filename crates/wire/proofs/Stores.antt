@@ -5,8 +5,8 @@ use Prim.Native.Nat.{ℕ, zero, suc, _+_, _-_, _^_, _≤_, _<_}
 use native.Mathlib.Nat.{add-zero, zero-add, suc-add, add-suc}
 use native.Mathlib.Numerals.{add-one}
 use native.Mathlib.Omega.{arith}
-use lib.ListN.{length, getD, take, drop, set, length-set, length-drop, take-append-drop, drop-of-length-le}
-use lib.Seq.{sets-eq, set-out, getD-set-same, getD-set-other, take-all, take-set-le, drop-set-add}
+use lib.ListN.{length, getD, take, drop, set, length-set, length-drop, length-append, take-append-drop, drop-of-length-le}
+use lib.Seq.{sets-eq, set-out, getD-set-same, getD-set-other, take-all, take-set-le, drop-set-add, take-append-seam, drop-append-seam, drop-append-add}
 use borrow.Rule.Slice.PartMut.{midOf, postOf, putMid}
 use Rattle.wire.specs.Wire.{Bytes, be, bytesAt, word, beVal, putAt}
 use Rattle.wire.proofs.Numbers.{length-be, beVal-be}
@@ -83,6 +83,18 @@ pub putAt-all : (out src : List ℕ) → length src ≡ length out → putAt out
 putAt-all out src e =
     sets-eq src out 0 (omega arith)
     ∙ rw (zero-add, drop-of-length-le out {i = length src} (omega arith)) (append-nil src)
+
+-- bytes that are stored behind a front take the place of as many others. So a layout is built, field after field
+pub putAt-behind : {s t : List ℕ} (front old rest src : List ℕ) → length src ≡ length old →
+    s ≡ front ++ (old ++ rest) → t ≡ putAt s (length front) src → t ≡ front ++ src ++ rest
+putAt-behind front old rest src e hs ht =
+    let whole : List ℕ = front ++ (old ++ rest) in
+    let n : length whole ≡ length front + (length old + length rest) = rw (length-append front (old ++ rest), length-append old rest) in
+    let back : drop (length front + length src) whole ≡ rest = drop-append-add front (old ++ rest) (length src) ∙ rw e (drop-append-seam old rest) in
+    ht
+    ∙ ap (λ (l : List ℕ). putAt l (length front) src) hs
+    ∙ sets-eq src whole (length front) (omega arith)
+    ∙ rw (take-append-seam front (old ++ rest), back)
 
 -- what a part that is lent up to the end comes back with is a store in the whole
 pub putAt-lent : (out : List ℕ) (at : ℕ) (src : List ℕ) →

@@ -1,0 +1,4 @@
+pub mod Element
+pub mod FileHeader
+pub mod FormatState
+pub mod Slots

@@ -1,0 +1,66 @@
+-- The encoder's stores, each behind the one before, lay out a slot. Assumes nothing.
+use mathlib.Core.Path.{_≡_, refl, ap, _∙_}
+use mathlib.Core.List.{List, [], _∷_, _++_, append-nil}
+use Prim.Native.Nat.{ℕ}
+use lib.ListN.{take, replicate}
+use lib.Seq.{take-append-seam}
+use Rattle.wire.specs.Wire.{be, putAt}
+use Rattle.wire.proofs.Stores.{putAt-behind}
+use Rattle.crc.specs.Crc.{crcOf}
+use Rattle.header.specs.Slot.{slotStart, slotFields, slotBytes}
+use Rattle.header.specs.declared.SlotData.{SlotData}
+
+-- what is not laid out yet
+abbrev zeros : ℕ → List ℕ
+zeros n = replicate n 0
+
+abbrev magic : List ℕ
+magic = 0x51 ∷ 0x46 ∷ 0x4D ∷ 0x48 ∷ []
+
+abbrev version : List ℕ
+version = 2 ∷ 0 ∷ 0 ∷ 0 ∷ []
+
+module _ (x : SlotData) where
+  fields-laid : {a b c d e f g h : List ℕ} →
+      a ≡ putAt (zeros 56) 0 magic →
+      b ≡ putAt a 4 version →
+      c ≡ putAt b 8 (be 8 (x .«file_length»)) →
+      d ≡ putAt c 16 (be 4 (x .«element_count»)) →
+      e ≡ putAt d 20 (be 8 (x .«first_position»)) →
+      f ≡ putAt e 28 (be 8 (x .«last_position»)) →
+      g ≡ putAt f 36 (be 8 (x .generation)) →
+      h ≡ putAt g 44 (be 8 (x .«next_sequence_number»)) →
+      h ≡ slotFields x ++ zeros 4
+  fields-laid pa pb pc pd pe pf pg ph =
+      let a = putAt-behind [] (zeros 4) (zeros 52) magic refl refl pa in
+      let b = putAt-behind magic (zeros 4) (zeros 48) version refl a pb in
+      let c = putAt-behind slotStart (zeros 8) (zeros 40) (be 8 (x .«file_length»)) refl b pc in
+      let upToLength : List ℕ = slotStart ++ be 8 (x .«file_length») in
+      let d = putAt-behind upToLength (zeros 4) (zeros 36) (be 4 (x .«element_count»)) refl c pd in
+      let upToCount : List ℕ = upToLength ++ be 4 (x .«element_count») in
+      let e = putAt-behind upToCount (zeros 8) (zeros 28) (be 8 (x .«first_position»)) refl d pe in
+      let upToFirst : List ℕ = upToCount ++ be 8 (x .«first_position») in
+      let f = putAt-behind upToFirst (zeros 8) (zeros 20) (be 8 (x .«last_position»)) refl e pf in
+      let upToLast : List ℕ = upToFirst ++ be 8 (x .«last_position») in
+      let g = putAt-behind upToLast (zeros 8) (zeros 12) (be 8 (x .generation)) refl f pg in
+      let upToGeneration : List ℕ = upToLast ++ be 8 (x .generation) in
+      putAt-behind upToGeneration (zeros 8) (zeros 4) (be 8 (x .«next_sequence_number»)) refl g ph
+
+  pub slot-laid : {a b c d e f g h i : List ℕ} {sum : ℕ} →
+      a ≡ putAt (zeros 56) 0 magic →
+      b ≡ putAt a 4 version →
+      c ≡ putAt b 8 (be 8 (x .«file_length»)) →
+      d ≡ putAt c 16 (be 4 (x .«element_count»)) →
+      e ≡ putAt d 20 (be 8 (x .«first_position»)) →
+      f ≡ putAt e 28 (be 8 (x .«last_position»)) →
+      g ≡ putAt f 36 (be 8 (x .generation)) →
+      h ≡ putAt g 44 (be 8 (x .«next_sequence_number»)) →
+      sum ≡ crcOf (take 52 h) →
+      i ≡ putAt h 52 (be 4 sum) →
+      i ≡ slotBytes x
+  slot-laid {sum = sum} pa pb pc pd pe pf pg ph ps pi =
+      let h = fields-laid pa pb pc pd pe pf pg ph in
+      let summed : sum ≡ crcOf (slotFields x) = ps ∙ ap (λ (l : List ℕ). crcOf (take 52 l)) h ∙ ap crcOf (take-append-seam (slotFields x) (zeros 4)) in
+      putAt-behind (slotFields x) (zeros 4) [] (be 4 sum) refl h pi
+      ∙ append-nil (slotFields x ++ be 4 sum)
+      ∙ ap (λ (n : ℕ). slotFields x ++ be 4 n) summed
