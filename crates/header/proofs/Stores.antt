@@ -1,8 +1,9 @@
--- The encoder's stores, each behind the one before, lay out a slot. Assumes nothing.
+-- An encoder's stores, each behind the one before, lay out its bytes: a slot's, and what other layouts share.
+-- Assumes nothing.
 use mathlib.Core.Path.{_≡_, refl, ap, _∙_}
 use mathlib.Core.List.{List, [], _∷_, _++_, append-nil}
 use Prim.Native.Nat.{ℕ}
-use lib.ListN.{take, replicate}
+use lib.ListN.{length, take, replicate}
 use lib.Seq.{take-append-seam}
 use Rattle.wire.specs.Wire.{be, putAt}
 use Rattle.wire.proofs.Stores.{putAt-behind}
@@ -11,8 +12,17 @@ use Rattle.header.specs.Slot.{slotStart, slotFields, slotBytes}
 use Rattle.header.specs.declared.SlotData.{SlotData}
 
 -- what is not laid out yet
-abbrev zeros : ℕ → List ℕ
+abbrev pub zeros : ℕ → List ℕ
 zeros n = replicate n 0
+
+-- fields that are sealed by a sum over them, which stands last
+pub sealed : {a b : List ℕ} {sum : ℕ} (f : List ℕ → ℕ) (fields : List ℕ) →
+    a ≡ fields ++ zeros 4 → sum ≡ f (take (length fields) a) → b ≡ putAt a (length fields) (be 4 sum) → b ≡ fields ++ be 4 (f fields)
+sealed {sum = sum} f fields pa ps pb =
+    let summed : sum ≡ f fields = ps ∙ ap (λ (l : List ℕ). f (take (length fields) l)) pa ∙ ap f (take-append-seam fields (zeros 4)) in
+    putAt-behind fields (zeros 4) [] (be 4 sum) refl pa pb
+    ∙ append-nil (fields ++ be 4 sum)
+    ∙ ap (λ (n : ℕ). fields ++ be 4 n) summed
 
 abbrev magic : List ℕ
 magic = 0x51 ∷ 0x46 ∷ 0x4D ∷ 0x48 ∷ []
@@ -58,9 +68,4 @@ module _ (x : SlotData) where
       sum ≡ crcOf (take 52 h) →
       i ≡ putAt h 52 (be 4 sum) →
       i ≡ slotBytes x
-  slot-laid {sum = sum} pa pb pc pd pe pf pg ph ps pi =
-      let h = fields-laid pa pb pc pd pe pf pg ph in
-      let summed : sum ≡ crcOf (slotFields x) = ps ∙ ap (λ (l : List ℕ). crcOf (take 52 l)) h ∙ ap crcOf (take-append-seam (slotFields x) (zeros 4)) in
-      putAt-behind (slotFields x) (zeros 4) [] (be 4 sum) refl h pi
-      ∙ append-nil (slotFields x ++ be 4 sum)
-      ∙ ap (λ (n : ℕ). slotFields x ++ be 4 n) summed
+  slot-laid pa pb pc pd pe pf pg ph ps pi = sealed crcOf (slotFields x) (fields-laid pa pb pc pd pe pf pg ph) ps pi

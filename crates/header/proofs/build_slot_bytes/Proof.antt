@@ -78,7 +78,7 @@ put-u32-requires-2 : tie.Need-put-u32-requires-2
 put-u32-requires-2 c κs = search needs
 
 returns : tie.Need-returns
-returns c = 
+returns c =
     let p10 = c .before in
     let p9 = p10 .before .before in
     let p8 = p9 .before .before .before in

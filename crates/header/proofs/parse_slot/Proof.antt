@@ -28,7 +28,7 @@ get-u32-requires : tie.Need-get-u32-requires
 get-u32-requires c κs = search needs
 
 slice-aggregate-crc32 : tie.Need-slice-aggregate-crc32
-slice-aggregate-crc32 c = 
+slice-aggregate-crc32 c =
     let a = c .before .before .before .before .before .before .before .before .args in
     sym (length-take-le 52 (now (a .s)) (omega arith))
 
@@ -39,7 +39,7 @@ judge-slot-requires : tie.Need-judge-slot-requires
 judge-slot-requires c κs = search needs
 
 returns-3 : tie.Need-returns-3
-returns-3 c = 
+returns-3 c =
     let sm = c .before in
     let st = sm .before .before in
     let rd = st .before in

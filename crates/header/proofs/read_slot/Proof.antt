@@ -23,7 +23,7 @@ get-u64-requires-5 : tie.Need-get-u64-requires-5
 get-u64-requires-5 c κs = search needs
 
 returns : tie.Need-returns
-returns c = 
+returns c =
     let p2 = c .before in
     let p3 = p2 .before in
     let p4 = p3 .before in
