@@ -1,6 +1,6 @@
 -- A header slot: its 56 bytes, and what reading them answers. All numbers are big-endian.
 -- Assumes nothing.
-use Prim.Native.Nat.{ℕ, _^_}
+use Prim.Native.Nat.{ℕ, _^_, _<_}
 use mathlib.Core.List.{List, [], _∷_, _++_}
 use lib.ListN.{length, take, replicate}
 use lib.Dec.{ltb, leb, eqb}
@@ -27,6 +27,19 @@ otherSlot B = A
 abbrev pub slotOffset : HeaderSlot → ℕ
 slotOffset A = 0
 slotOffset B = 4096
+
+-- ---- what it holds
+
+abbrev pub slotData : ℕ → ℕ → ℕ → ℕ → ℕ → ℕ → SlotData
+slotData fileLen count first last generation nextSeq =
+    record {
+      «file_length» = fileLen;
+      «element_count» = count;
+      «first_position» = first;
+      «last_position» = last;
+      generation = generation;
+      «next_sequence_number» = nextSeq;
+    }
 
 -- ---- its bytes
 
@@ -60,33 +73,13 @@ encodeSlot fileLen count first last generation nextSeq =
     (demand (ltb count (2 ^ 32)) (refusedField 2)
     (demand (ltb first (2 ^ 63)) (refusedField 3)
     (demand (ltb last (2 ^ 63)) (refusedField 4)
-    (record {
-      answer = Verdict.Granted;
-      bytes =
-          slotBytes
-          (record {
-            «file_length» = fileLen;
-            «element_count» = count;
-            «first_position» = first;
-            «last_position» = last;
-            generation = generation;
-            «next_sequence_number» = nextSeq;
-          });
-    }))))
+    (record { answer = Verdict.Granted; bytes = slotBytes (slotData fileLen count first last generation nextSeq) }))))
 
 -- ---- what its bytes say
 
 -- the fields as they stand
 abbrev pub slotAt : List ℕ → SlotData
-slotAt s =
-    record {
-      «file_length» = word 8 s 8;
-      «element_count» = word 4 s 16;
-      «first_position» = word 8 s 20;
-      «last_position» = word 8 s 28;
-      generation = word 8 s 36;
-      «next_sequence_number» = word 8 s 44;
-    }
+slotAt s = slotData (word 8 s 8) (word 4 s 16) (word 8 s 20) (word 8 s 28) (word 8 s 36) (word 8 s 44)
 
 -- no field is negative, and the CRC-32 fits
 abbrev pub judgeSlot : SlotData → ℕ → ℕ → ParsedSlot
@@ -111,3 +104,14 @@ parseSlot s =
 abbrev pub parsedSlotRefusal : ParsedSlot → Refusal
 parsedSlotRefusal (Slot d) = none
 parsedSlotRefusal (Refused r) = r
+
+-- ---- what a slot can hold
+
+-- the limits within which what is encoded parses
+pub record Fits (d : SlotData) : Type 0 where
+  pub length : d .«file_length» < 2 ^ 63
+  pub count : d .«element_count» < 2 ^ 31
+  pub first : d .«first_position» < 2 ^ 63
+  pub last : d .«last_position» < 2 ^ 63
+  pub generation : d .generation < 2 ^ 63
+  pub sequence : d .«next_sequence_number» < 2 ^ 63

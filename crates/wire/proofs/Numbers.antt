@@ -29,6 +29,15 @@ bytes-be (suc w) n i = bytes-append (be w (n / 256)) (n % 256 ∷ []) (bytes-be 
     one zero = omega arith
     one (suc i) = omega arith
 
+-- a layout: numbers one after the other, each with its width
+abbrev pub layout : List (ℕ × ℕ) → List ℕ
+layout [] = []
+layout (f ∷ fs) = be (f .0) (f .1) ++ layout fs
+
+pub bytes-layout : (fs : List (ℕ × ℕ)) → Bytes (layout fs)
+bytes-layout [] i = omega arith
+bytes-layout (f ∷ fs) i = bytes-append (be (f .0) (f .1)) (layout fs) (bytes-be (f .0) (f .1)) (bytes-layout fs) i
+
 pub bytes-bytesAt : (w : ℕ) (s : List ℕ) (at : ℕ) → Bytes s → Bytes (bytesAt w s at)
 bytes-bytesAt zero s at h i = omega arith
 bytes-bytesAt (suc w) s at h zero = h at
