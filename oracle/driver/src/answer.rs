@@ -3,7 +3,7 @@
 use std::io::{self, BufWriter, Read, Write};
 
 use crate::language::{self, SCRIPT_LIMIT};
-use crate::operations::checksum;
+use crate::operations::{checksum, elements, file_headers, slots};
 
 /// Reads a script up to the limit and prints one line for each operation.
 pub fn answer(script: impl Read, answers: impl Write) -> io::Result<()> {
@@ -23,19 +23,33 @@ fn operation(words: &[&[u8]]) -> Option<String> {
     match words {
         [b"crc", part] => checksum::crc(part),
         [b"crc_joined", first, second] => checksum::crc_joined(first, second),
+        [b"slot_encode", fields @ ..] => slots::slot_encode(fields),
+        [b"slot_parse", slot] => slots::slot_parse(slot),
+        [b"slot_check", fields @ ..] => slots::slot_check(fields),
+        [b"elect", a, b] => slots::elect(a, b),
+        [b"header_encode", fields @ ..] => elements::header_encode(fields),
+        [b"header_parse", header, capacity] => elements::header_parse(header, capacity),
+        [b"footer_encode", seq, payload] => elements::footer_encode(seq, payload),
+        [b"footer_check", footer, seq, payload] => elements::footer_check(footer, seq, payload),
+        [b"legacy_encode", fields @ ..] => file_headers::legacy_encode(fields),
+        [b"legacy_parse", header] => file_headers::legacy_parse(header),
+        [b"v1_encode", fields @ ..] => file_headers::v1_encode(fields),
+        [b"v1_parse", header] => file_headers::v1_parse(header),
         _ => None,
     }
+}
+
+/// The answers to a script, for the tests.
+#[cfg(test)]
+pub fn answers(script: impl AsRef<[u8]>) -> String {
+    let mut printed = Vec::new();
+    answer(script.as_ref(), &mut printed).unwrap();
+    String::from_utf8(printed).unwrap()
 }
 
 #[cfg(test)]
 mod tests {
     use super::*;
-
-    fn answers(script: &str) -> String {
-        let mut printed = Vec::new();
-        answer(script.as_bytes(), &mut printed).unwrap();
-        String::from_utf8(printed).unwrap()
-    }
 
     #[test]
     fn the_published_check_value() {
@@ -54,7 +68,7 @@ mod tests {
     #[test]
     fn what_lies_beyond_the_limit_is_not_read() {
         let filler = "\n".repeat(SCRIPT_LIMIT - "crc 00".len());
-        assert_eq!(answers(&format!("{filler}crc 00ff\n")), answers("crc 00"));
-        assert_eq!(answers(&format!("{filler}crc -\n\ncrc -")), answers("crc -"));
+        assert_eq!(answers(format!("{filler}crc 00ff\n")), answers("crc 00"));
+        assert_eq!(answers(format!("{filler}crc -\n\ncrc -")), answers("crc -"));
     }
 }

@@ -2,8 +2,8 @@
 
 use std::fmt;
 
-/// What the driver answers where the Rust has nothing to compare with.
-const SKIP: &[u8] = b"skip\n";
+use crate::language::SKIP;
+
 /// How much of a differing line is shown, in characters.
 const SHOWN: usize = 200;
 
@@ -30,12 +30,16 @@ pub fn compare<'a>(port: &'a [u8], rust: &'a [u8]) -> Result<Equal, Difference<'
     loop {
         match (port_lines.next(), rust_lines.next()) {
             (None, None) => return Ok(equal),
-            (Some(_), Some(SKIP)) => equal.skipped += 1,
+            (Some(_), Some(rust)) if is_skip(rust) => equal.skipped += 1,
             (port, rust) if port == rust => {}
             (port, rust) => return Err(Difference { line: equal.lines + 1, port, rust }),
         }
         equal.lines += 1;
     }
+}
+
+fn is_skip(line: &[u8]) -> bool {
+    line.strip_suffix(b"\n") == Some(SKIP.as_bytes())
 }
 
 /// Lines with their newline, so that a missing last one shows.

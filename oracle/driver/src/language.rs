@@ -3,12 +3,16 @@
 
 use std::fmt::Display;
 
+use crate::refusals::Refusal;
+
 /// How much of a script is read, in bytes.
 pub const SCRIPT_LIMIT: usize = 1 << 20;
 /// The longest byte string.
 pub const BYTES_LIMIT: usize = 262_144;
 /// The byte string of no bytes.
 pub const NO_BYTES: &str = "-";
+/// What the driver answers where the Rust has nothing to compare with.
+pub const SKIP: &str = "skip";
 
 /// The lines that are answered: all but empty ones and comments.
 pub fn lines(script: &[u8]) -> impl Iterator<Item = &[u8]> {
@@ -29,6 +33,12 @@ pub fn number(word: &[u8]) -> Option<u64> {
         let digit = byte.is_ascii_digit().then(|| byte - b'0')?;
         value.checked_mul(10)?.checked_add(u64::from(digit))
     })
+}
+
+/// As many numbers as are wanted, a word each.
+pub fn numbers<const N: usize>(words: &[&[u8]]) -> Option<[u64; N]> {
+    let numbers: Vec<u64> = words.iter().map(|word| number(word)).collect::<Option<_>>()?;
+    numbers.try_into().ok()
 }
 
 /// A byte string in lower-case hex.
@@ -67,9 +77,18 @@ pub fn spell_crc(crc: u32) -> String {
     format!("{crc:08x}")
 }
 
+pub fn spell_numbers(numbers: &[u64]) -> String {
+    numbers.iter().map(u64::to_string).collect::<Vec<_>>().join(" ")
+}
+
 /// The line of an operation that refuses nothing and has no state to show.
 pub fn accepted(answer: impl Display) -> String {
     format!("0 0 0 : {answer}")
+}
+
+/// The line of an operation that refuses and has no state to show: no answer stands behind it.
+pub fn refused(refusal: Refusal) -> String {
+    format!("{refusal} : ")
 }
 
 #[cfg(test)]
@@ -120,6 +139,15 @@ mod tests {
     }
 
     #[test]
+    fn numbers_are_as_many_as_wanted() {
+        assert_eq!(numbers(&[b"1", b"02"]), Some([1, 2]));
+        assert_eq!(numbers(&[]), Some([]));
+        assert_eq!(numbers::<2>(&[b"1"]), None);
+        assert_eq!(numbers::<2>(&[b"1", b"2", b"3"]), None);
+        assert_eq!(numbers::<2>(&[b"1", b""]), None);
+    }
+
+    #[test]
     fn byte_strings_are_lower_case_hex() {
         assert_eq!(bytes(b"-"), Some(vec![]));
         assert_eq!(bytes(b"00ff1a"), Some(vec![0, 255, 26]));
@@ -141,5 +169,12 @@ mod tests {
         assert_eq!(bytes(spell_bytes(&every).as_bytes()), Some(every));
         assert_eq!(bytes(spell_bytes(&[]).as_bytes()), Some(vec![]));
         assert_eq!(spell_crc(0xbeef), "0000beef");
+        assert_eq!(spell_numbers(&[0, 7, u64::MAX]), "0 7 18446744073709551615");
+    }
+
+    #[test]
+    fn a_refused_line_ends_behind_the_colon() {
+        assert_eq!(refused(Refusal { number: 22, first: 3, second: 0 }), "22 3 0 : ");
+        assert_eq!(accepted(""), "0 0 0 : ");
     }
 }

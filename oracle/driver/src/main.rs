@@ -1,18 +1,22 @@
 //! The Rust side of the comparison: answers scripts of the replay language by running the upstream
-//! code, writes the scripts, and compares two files of answers.
+//! code, writes the scripts, compares two files of answers, and counts the refusals in answers.
 
 mod answer;
 mod compare;
 mod language;
 mod operations;
 mod random;
+mod refusals;
+mod scratch;
 mod scripts;
+mod tally;
 
+use std::io::Read;
 use std::path::Path;
 use std::process::ExitCode;
 use std::{env, fs, io};
 
-const USAGE: &str = "answer | scripts FAMILY SEED FOLDER | compare PORT RUST";
+const USAGE: &str = "answer | scripts FAMILY SEED FOLDER | compare PORT RUST | refusals";
 
 fn main() -> ExitCode {
     let arguments: Vec<String> = env::args().skip(1).collect();
@@ -22,6 +26,7 @@ fn main() -> ExitCode {
         ["answer"] => answer::answer(io::stdin(), io::stdout()).map(|()| true),
         ["scripts", family, seed, folder] => write_scripts(family, seed, Path::new(folder)),
         ["compare", port, rust] => compare_files(Path::new(port), Path::new(rust)),
+        ["refusals"] => count_refusals(io::stdin()),
         _ => Err(io::Error::new(io::ErrorKind::InvalidInput, USAGE)),
     };
 
@@ -56,5 +61,13 @@ fn compare_files(port: &Path, rust: &Path) -> io::Result<bool> {
             return Ok(false);
         }
     }
+    Ok(true)
+}
+
+/// Says how often each refusal stands in the answers.
+fn count_refusals(mut answers: impl Read) -> io::Result<bool> {
+    let mut text = Vec::new();
+    answers.read_to_end(&mut text)?;
+    println!("{}", tally::tally(&text));
     Ok(true)
 }

@@ -2,3 +2,42 @@
 //! as they stand and answers its line, or `None` where a word is bad.
 
 pub mod checksum;
+pub mod elements;
+pub mod file_headers;
+pub mod slots;
+
+use std::fmt::Display;
+
+use queue_file::inside::Result;
+
+use crate::language::{accepted, refused};
+use crate::refusals::refusal;
+
+/// The upstream code takes counts and lengths as `usize`; a script's have 64 bits.
+const _: () = assert!(usize::BITS == 64);
+
+/// The line for what an upstream function returned.
+fn answered(returned: Result<impl Display>) -> String {
+    match returned {
+        Ok(answer) => accepted(answer),
+        Err(error) => refused(refusal(&error)),
+    }
+}
+
+/// The bytes of a layout, which are the first ones; `None` where there are too few. The upstream
+/// functions take no fewer.
+fn layout<const LEN: usize>(bytes: &[u8]) -> Option<&[u8; LEN]> {
+    bytes.get(..LEN)?.try_into().ok()
+}
+
+#[cfg(test)]
+mod tests {
+    use super::*;
+
+    #[test]
+    fn a_layout_takes_the_first_bytes() {
+        assert_eq!(layout(b"abcd"), Some(b"abc"));
+        assert_eq!(layout(b"abc"), Some(b"abc"));
+        assert_eq!(layout::<3>(b"ab"), None);
+    }
+}

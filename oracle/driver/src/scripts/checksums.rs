@@ -1,6 +1,7 @@
 //! The family `crc`: parts of every short length, long parts, and parts cut in two.
 
-use super::{crc, crc_joined, packed, Line, Script};
+use super::lines::{crc, crc_joined};
+use super::{packed, Line, Script};
 use crate::language::BYTES_LIMIT;
 use crate::random::Random;
 

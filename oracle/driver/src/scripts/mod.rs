@@ -1,10 +1,18 @@
 //! The scripts for the comparison, by family. The same family and seed give the same scripts.
 
 mod checksums;
+mod codec_sample;
+mod codec_spellings;
+mod elements;
+mod file_headers;
+mod layouts;
+mod limits;
+mod lines;
 mod sample;
+mod slots;
 mod spellings;
 
-use crate::language::{spell_bytes, SCRIPT_LIMIT};
+use crate::language::SCRIPT_LIMIT;
 use crate::random::Random;
 
 type Line = Vec<u8>;
@@ -15,6 +23,9 @@ pub fn family(name: &str, seed: u64) -> Option<Vec<Script>> {
     match name {
         "crc" => Some(checksums::scripts(random)),
         "bad" => Some(spellings::scripts(random)),
+        "slots" => Some(slots::scripts(random)),
+        "elements" => Some(elements::scripts(random)),
+        "file_headers" => Some(file_headers::scripts(random)),
         "sample" => Some(sample::scripts(random)),
         _ => None,
     }
@@ -35,28 +46,88 @@ fn packed(lines: impl IntoIterator<Item = Line>) -> Vec<Script> {
     scripts
 }
 
-fn crc(part: &[u8]) -> Line {
-    format!("crc {}", spell_bytes(part)).into_bytes()
-}
-
-fn crc_joined(first: &[u8], second: &[u8]) -> Line {
-    format!("crc_joined {} {}", spell_bytes(first), spell_bytes(second)).into_bytes()
-}
-
 #[cfg(test)]
 mod tests {
     use super::*;
+    use crate::answer::answers;
     use crate::language;
+    use std::collections::BTreeSet;
+
+    /// What each family of codecs is to reach: operation and number, with the field for 22.
+    #[rustfmt::skip]
+    const REACHED: [(&str, &[&str]); 3] = [
+        ("slots", &[
+            "slot_encode 0", "slot_encode 22 1", "slot_encode 22 2", "slot_encode 22 3",
+            "slot_encode 22 4", "slot_parse 0", "slot_parse 31", "slot_parse skip",
+            "slot_check 0", "slot_check 11", "slot_check 12", "slot_check 13", "slot_check 14",
+            "slot_check 15", "slot_check 16", "elect 0", "elect 10",
+        ]),
+        ("elements", &[
+            "header_encode 0", "header_encode skip", "header_parse 0", "header_parse 2",
+            "header_parse 3", "header_parse 4", "header_parse 5", "header_parse 6",
+            "header_parse skip", "footer_encode 0", "footer_check 0", "footer_check 7",
+            "footer_check 8", "footer_check 9", "footer_check skip",
+        ]),
+        ("file_headers", &[
+            "legacy_encode 0", "legacy_encode 22 1", "legacy_encode 22 2", "legacy_encode 22 3",
+            "legacy_encode 22 4", "legacy_parse 0", "legacy_parse 22 1", "legacy_parse 22 2",
+            "legacy_parse 22 3", "legacy_parse 22 4", "legacy_parse skip", "v1_encode 0",
+            "v1_encode 22 1", "v1_encode 22 2", "v1_encode 22 3", "v1_encode 22 4", "v1_parse 0",
+            "v1_parse 22 1", "v1_parse 22 2", "v1_parse 22 3", "v1_parse 22 4", "v1_parse 23",
+            "v1_parse skip",
+        ]),
+    ];
 
     fn all_lines(scripts: &[Script]) -> Vec<&[u8]> {
         scripts.iter().flat_map(|script| language::lines(script)).collect()
     }
 
+    /// The first word of every line with the number of its answer, or `bad` or `skip`.
+    fn reached(scripts: &[Script]) -> BTreeSet<String> {
+        let answered: String = scripts.iter().map(answers).collect();
+        let lines = all_lines(scripts);
+        assert_eq!(lines.len(), answered.lines().count());
+        let told = |(line, answer): (&&[u8], &str)| {
+            let operation = language::words(line)[0].escape_ascii();
+            let words: Vec<&str> = answer.split(' ').collect();
+            let shown = if words[0] == "22" { 2 } else { 1 };
+            format!("{operation} {}", words[..shown].join(" "))
+        };
+        lines.iter().zip(answered.lines()).map(told).collect()
+    }
+
     #[test]
     fn the_seed_decides() {
-        assert!(family("crc", 7) == family("crc", 7));
-        assert!(family("crc", 7) != family("crc", 8));
+        for name in ["crc", "bad", "slots", "elements", "file_headers"] {
+            assert!(family(name, 7) == family(name, 7), "{name}");
+            assert!(family(name, 7) != family(name, 8), "{name}");
+        }
         assert!(family("no", 7).is_none());
+    }
+
+    #[test]
+    fn codecs_reach_every_refusal_and_are_well_spelled() {
+        for (name, wanted) in REACHED {
+            let scripts = family(name, 1).unwrap();
+            let wanted: BTreeSet<String> = wanted.iter().map(|told| told.to_string()).collect();
+            assert_eq!(reached(&scripts), wanted, "{name}");
+            assert!(scripts.iter().all(|script| script.len() <= SCRIPT_LIMIT), "{name}");
+        }
+    }
+
+    #[test]
+    fn codecs_have_as_many_lines_as_are_wanted() {
+        let lines = |name| all_lines(&family(name, 1).unwrap()).len();
+        assert!(lines("slots") + lines("elements") + lines("file_headers") >= 210_000);
+    }
+
+    #[test]
+    fn the_sample_shows_every_answer_of_the_codecs_and_none_is_passed_over() {
+        let shown = reached(&family("sample", 1).unwrap());
+        for told in REACHED.iter().flat_map(|(_, reached)| reached.iter()) {
+            assert_eq!(shown.contains(*told), !told.ends_with("skip"), "{told}");
+        }
+        assert!(!shown.iter().any(|told| told.ends_with("skip")));
     }
 
     #[test]

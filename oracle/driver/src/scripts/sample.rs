@@ -1,7 +1,10 @@
 //! The family `sample`: one small script that is kept with the port and replayed where no Rust is.
 
+use super::codec_sample;
+use super::codec_spellings::few_wrong_codecs;
+use super::lines::{crc, crc_joined};
 use super::spellings::ODD_LINES;
-use super::{crc, crc_joined, packed, Line, Script};
+use super::{packed, Line, Script};
 use crate::random::Random;
 
 /// The bytes whose CRC-32 is published with the definition, cbf43926.
@@ -18,12 +21,32 @@ pub fn scripts(random: &mut Random) -> Vec<Script> {
     lines.extend([1, 2, 3, 4, 8, 64].map(|len| crc(&vec![0xff; len])));
     lines.push(comment("Longer parts, cut in two."));
     lines.extend([12, 28, 52, 300].iter().flat_map(|len| some_splits(&random.bytes(*len))));
+    lines.extend(codecs());
     lines.push(comment("Odd spellings; the last line has no newline."));
+    lines.extend(few_wrong_codecs());
     lines.extend(printable_odd_lines());
 
     let mut script = packed(lines).concat();
     script.extend(crc(CHECK));
     vec![script]
+}
+
+/// Each codec with each of its answers.
+fn codecs() -> Vec<Line> {
+    let parts = [
+        ("Slots encoded.", codec_sample::slots_encoded()),
+        ("Slots parsed.", codec_sample::slots_parsed()),
+        ("Slots checked.", codec_sample::slots_checked()),
+        ("Slots elected.", codec_sample::slots_elected()),
+        ("Element headers encoded.", codec_sample::headers_encoded()),
+        ("Element headers parsed.", codec_sample::headers_parsed()),
+        ("Footers encoded.", codec_sample::footers_encoded()),
+        ("Footers checked.", codec_sample::footers_checked()),
+        ("Legacy headers.", codec_sample::legacy_headers()),
+        ("V1 headers.", codec_sample::v1_headers()),
+    ];
+    let with_its_title = |(title, lines)| [vec![comment(title)], lines].concat();
+    parts.into_iter().flat_map(with_its_title).collect()
 }
 
 fn comment(text: &str) -> Line {

@@ -1,7 +1,9 @@
 //! The family `bad`: lines that break a rule of the language, beside lines that only look as if
 //! they did, and scripts that end or are cut in odd places.
 
-use super::{crc, crc_joined, packed, Line, Script};
+use super::codec_spellings::{mutated_codec, too_long_for_a_codec, wrong_codecs};
+use super::lines::{crc, crc_joined};
+use super::{packed, Line, Script};
 use crate::language::{BYTES_LIMIT, SCRIPT_LIMIT};
 use crate::random::Random;
 
@@ -41,6 +43,13 @@ pub const ODD_LINES: &[&str] = &[
     // Returns and zeros, which are bytes like any other.
     "\r", "crc 00\r", "crc\r00", "\rcrc 00", "crc 00 \r", "#\r", "crc -\r", "\0", "crc 00\0",
     "crc \0", "\0crc 00", "#\0",
+    // Numbers at the limits of their words, with zeros before them, and what is none.
+    "slot_check 16584 4294967295 8236 8324 6 5 16584",
+    "slot_check 16584 4294967296 8236 8324 6 5 16584",
+    "slot_encode 16584 4294967296 8236 8324 6 5", "legacy_encode 4096 4294967296 16 120",
+    "header_encode 18446744073709551615 0 0", "header_encode 18446744073709551616 0 0",
+    "header_encode 0002 0000000000000000000000000008192 00", "header_encode 2 8192 ff",
+    "header_encode +2 8192 0", "header_encode 2 -1 0", "header_encode 0x2 8192 0",
     // Well spelled, with every digit.
     "crc 0123456789abcdef", "crc 00", "crc ff", "crc_joined 0123 456789abcdef", "crc_joined 00 ff",
 ];
@@ -59,6 +68,9 @@ pub fn scripts(random: &mut Random) -> Vec<Script> {
     scripts.extend(odd_ends());
     scripts.extend(around_the_bytes_limit(random));
     scripts.extend(around_the_script_limit(random));
+    scripts.extend(packed(wrong_codecs()));
+    scripts.extend(packed((0..MUTATIONS).map(|_| mutated_codec(random))));
+    scripts.extend(packed(too_long_for_a_codec(random)));
     scripts
 }
 
@@ -72,14 +84,19 @@ fn with_byte(byte: u8) -> [Line; 4] {
     ]
 }
 
-/// A good line with one byte changed, put in or taken out.
+/// A good line of one of the checksums, spoiled.
 fn mutated(random: &mut Random) -> Line {
     let len = random.below(6);
     let part = random.bytes(len);
-    let mut line = match random.below(2) {
+    let line = match random.below(2) {
         0 => crc(&part),
         _ => crc_joined(&part[..len / 2], &part[len / 2..]),
     };
+    with_a_byte_changed(random, line)
+}
+
+/// The line with one byte changed, put in or taken out.
+pub fn with_a_byte_changed(random: &mut Random, mut line: Line) -> Line {
     let place = random.below(line.len());
     let byte = PALETTE[random.below(PALETTE.len())];
     match random.below(3) {

@@ -1,0 +1,71 @@
+//! A ring of the upstream code over a small file, for upstream functions that read from nothing
+//! else.
+
+use std::cell::RefCell;
+use std::fs::{self, File};
+use std::sync::atomic::{AtomicUsize, Ordering};
+use std::{env, process};
+
+use queue_file::inside::header::V2_DATA_START;
+use queue_file::inside::qio::{DataRing, DataRingMut, QueueFileInner};
+
+/// The ring's capacity, in bytes.
+const CAPACITY: u64 = 64;
+
+thread_local! {
+    /// Made at the first use and kept, since a file for each call would cost more than the call.
+    static QUEUE: RefCell<QueueFileInner> = RefCell::new(queue());
+}
+
+/// What `read` returns on a ring that begins with these bytes.
+pub fn on_ring<T>(bytes: &[u8], read: impl FnOnce(&DataRing<'_>) -> T) -> T {
+    QUEUE.with(|queue| {
+        let mut queue = queue.borrow_mut();
+        let mut ring = DataRingMut::new(&mut queue, V2_DATA_START);
+        ring.write_at(0, bytes).expect("the scratch file is written");
+        read(&ring.as_read_only())
+    })
+}
+
+/// Nothing waits for the disk: the bytes are read back by the same process and then no more.
+fn queue() -> QueueFileInner {
+    QueueFileInner {
+        file: Some(nameless_file()),
+        file_len: V2_DATA_START + CAPACITY,
+        expected_seek: 0,
+        last_seek: None,
+        transfer_buf: Box::default(),
+        sync_writes: false,
+        deferred_sync_phase: None,
+    }
+}
+
+/// A new file whose name is taken away at once, so that it goes when the process ends.
+fn nameless_file() -> File {
+    static MADE: AtomicUsize = AtomicUsize::new(0);
+    let nth = MADE.fetch_add(1, Ordering::Relaxed);
+    let path = env::temp_dir().join(format!("oracle-{}-{nth}", process::id()));
+    let file = File::options().read(true).write(true).create_new(true).open(&path);
+    let file = file.unwrap_or_else(|error| panic!("{}: {error}", path.display()));
+    fs::remove_file(&path).expect("the scratch file's name is taken away");
+    file
+}
+
+#[cfg(test)]
+mod tests {
+    use super::*;
+
+    fn read_back(len: usize) -> impl Fn(&DataRing<'_>) -> Vec<u8> {
+        move |ring| {
+            let mut bytes = vec![0; len];
+            ring.read_at(0, &mut bytes).unwrap();
+            bytes
+        }
+    }
+
+    #[test]
+    fn the_ring_begins_with_the_last_bytes_put_there() {
+        assert_eq!(on_ring(b"first bytes", read_back(11)), b"first bytes");
+        assert_eq!(on_ring(b"later bytes", read_back(11)), b"later bytes");
+    }
+}

@@ -1,0 +1,60 @@
+//! The line of each operation, spelled.
+
+use super::Line;
+use crate::language::{spell_bytes, spell_numbers};
+
+pub fn crc(part: &[u8]) -> Line {
+    format!("crc {}", spell_bytes(part)).into_bytes()
+}
+
+pub fn crc_joined(first: &[u8], second: &[u8]) -> Line {
+    format!("crc_joined {} {}", spell_bytes(first), spell_bytes(second)).into_bytes()
+}
+
+pub fn slot_encode(fields: [u64; 6]) -> Line {
+    format!("slot_encode {}", spell_numbers(&fields)).into_bytes()
+}
+
+pub fn slot_parse(slot: &[u8]) -> Line {
+    format!("slot_parse {}", spell_bytes(slot)).into_bytes()
+}
+
+pub fn slot_check(fields: [u64; 6], real_len: u64) -> Line {
+    format!("slot_check {} {real_len}", spell_numbers(&fields)).into_bytes()
+}
+
+pub fn elect(a: &[u8], b: &[u8]) -> Line {
+    format!("elect {} {}", spell_bytes(a), spell_bytes(b)).into_bytes()
+}
+
+pub fn header_encode(seq: u64, backlink: u64, len: u64) -> Line {
+    format!("header_encode {seq} {backlink} {len}").into_bytes()
+}
+
+pub fn header_parse(header: &[u8], capacity: u64) -> Line {
+    format!("header_parse {} {capacity}", spell_bytes(header)).into_bytes()
+}
+
+pub fn footer_encode(seq: u64, payload: &[u8]) -> Line {
+    format!("footer_encode {seq} {}", spell_bytes(payload)).into_bytes()
+}
+
+pub fn footer_check(footer: &[u8], seq: u64, payload: &[u8]) -> Line {
+    format!("footer_check {} {seq} {}", spell_bytes(footer), spell_bytes(payload)).into_bytes()
+}
+
+pub fn legacy_encode(fields: [u64; 4]) -> Line {
+    format!("legacy_encode {}", spell_numbers(&fields)).into_bytes()
+}
+
+pub fn legacy_parse(header: &[u8]) -> Line {
+    format!("legacy_parse {}", spell_bytes(header)).into_bytes()
+}
+
+pub fn v1_encode(fields: [u64; 4]) -> Line {
+    format!("v1_encode {}", spell_numbers(&fields)).into_bytes()
+}
+
+pub fn v1_parse(header: &[u8]) -> Line {
+    format!("v1_parse {}", spell_bytes(header)).into_bytes()
+}
