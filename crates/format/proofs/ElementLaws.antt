@@ -13,19 +13,13 @@ use Rattle.refusal.specs.declared.Refusal.{Refusal}
 use Rattle.refusal.specs.declared.Verdict.the-variants as Verdict
 use Rattle.refusal.proofs.Laws.{met, granted, keep}
 use Rattle.wire.specs.Wire.{Bytes, be, word, bytesAt}
-use Rattle.wire.proofs.Numbers.{bytes-layout, beVal-be, be-word, bytesAt-part, startsWith-take}
+use Rattle.wire.proofs.Numbers.{bytes-layout, append-both, beVal-be, be-word, bytesAt-part, startsWith-take}
 use Rattle.crc.specs.Crc.{crcOf}
 use Rattle.crc.proofs.Limits.{crcOf-lt}
 use Rattle.format.specs.Element.{headerStart, headerFields, headerBytes, encodeHeader, elementSpan, parseHeader, footerStart, footerFields, footerBytes, checkFooter}
 use Rattle.format.specs.declared.element.V2ElementHeader.{V2ElementHeader}
 use Rattle.format.specs.declared.element.EncodedHeader.{EncodedHeader}
 use Rattle.format.specs.declared.element.ParsedHeader.the-variants.{Header, Refused}
-
-join4 : {a b c d a' b' c' d' : List ℕ} → a ≡ a' → b ≡ b' → c ≡ c' → d ≡ d' → a ++ b ++ c ++ d ≡ a' ++ b' ++ c' ++ d'
-join4 p q r t = cc
-
-join2 : {a b a' b' : List ℕ} → a ≡ a' → b ≡ b' → a ++ b ≡ a' ++ b'
-join2 p q = cc
 
 -- ---- the header's bytes
 
@@ -123,10 +117,12 @@ module _ (s : List ℕ) (capacity : ℕ) (h : V2ElementHeader) (b : Bytes s) (e 
   fields =
       let w = parsed s capacity h e in
       sym (bytesAt-part 24 s 0 (omega (arith, w .long)))
-      ∙ join4 {a = bytesAt 4 s 0} {b = bytesAt 8 s 4} {c = bytesAt 8 s 12} {d = bytesAt 4 s 20}
+      ∙ append-both
+      (append-both
+      (append-both
       (bytesAt-part 4 s 0 (omega (arith, w .long)) ∙ w .starts)
-      (sym (be-word 8 s 4 b) ∙ ap (be 8) (w .seq))
-      (sym (be-word 8 s 12 b) ∙ ap (be 8) (w .prev))
+      (sym (be-word 8 s 4 b) ∙ ap (be 8) (w .seq)))
+      (sym (be-word 8 s 12 b) ∙ ap (be 8) (w .prev)))
       (sym (be-word 4 s 20 b) ∙ ap (be 4) (w .len))
 
   -- what parses determines its bytes
@@ -134,7 +130,7 @@ module _ (s : List ℕ) (capacity : ℕ) (h : V2ElementHeader) (b : Bytes s) (e 
   header-bytes =
       let w = parsed s capacity h e in
       take-add 24 4 s
-      ∙ join2 fields
+      ∙ append-both fields
       (sym (bytesAt-part 4 s 24 (omega (arith, w .long))) ∙ sym (be-word 4 s 24 b) ∙ ap (be 4) (w .sums ∙ ap crcOf fields))
 
 -- ---- the footer
@@ -167,11 +163,11 @@ footer-bytes s seq payload b e =
     let long : 16 ≤ length s = leb-true 16 (length s) (g1 .0) in
     let fields : take 12 s ≡ footerFields seq =
     sym (bytesAt-part 12 s 0 (omega arith))
-    ∙ join2 {a = bytesAt 4 s 0} {b = bytesAt 8 s 4}
+    ∙ append-both
     (bytesAt-part 4 s 0 (omega arith) ∙ startsWith-take s footerStart (g2 .0))
     (sym (be-word 8 s 4 b) ∙ ap (be 8) (eqb-true (word 8 s 4) seq (g3 .0))) in
     take-add 12 4 s
-    ∙ join2 fields
+    ∙ append-both fields
     (sym (bytesAt-part 4 s 12 (omega arith))
     ∙ sym (be-word 4 s 12 b)
     ∙ ap (be 4) (eqb-true (word 4 s 12) (crcOf (payload ++ take 12 s)) (g4 .0) ∙ ap (λ (l : List ℕ). crcOf (payload ++ l)) fields))

@@ -13,7 +13,7 @@ use Rattle.refusal.specs.declared.Refusal.{Refusal}
 use Rattle.refusal.specs.declared.Verdict.the-variants as Verdict
 use Rattle.refusal.proofs.Laws.{met, granted, keep}
 use Rattle.wire.specs.Wire.{Bytes, be, word, bytesAt}
-use Rattle.wire.proofs.Numbers.{bytes-layout, beVal-be, be-word, bytesAt-part, word-lt}
+use Rattle.wire.proofs.Numbers.{bytes-layout, append-both, beVal-be, be-word, bytesAt-part, word-lt}
 use Rattle.format.specs.FileHeader.{metadata, legacyBytes, encodeLegacy, parseLegacy, v1Layout, v1Bytes, encodeV1, versionOf, parseV1}
 use Rattle.format.specs.declared.file_header.QueueMetadata.{QueueMetadata}
 use Rattle.format.specs.declared.file_header.EncodedLegacyHeader.{EncodedLegacyHeader}
@@ -75,9 +75,6 @@ module _ (fileLen count first last : ℕ) (hn : fileLen < 2 ^ 31) (hc : count < 
       (met _ _ _ (rw q (lt-ltb last (2 ^ 31) hl))
       (rw (n, c, p, q)))))))
 
-join4 : {a b c d a' b' c' d' : List ℕ} → a ≡ a' → b ≡ b' → c ≡ c' → d ≡ d' → a ++ b ++ c ++ d ≡ a' ++ b' ++ c' ++ d'
-join4 p q r t = cc
-
 -- what parses determines its bytes
 pub legacy-bytes : (s : List ℕ) (m : QueueMetadata) → Bytes s → parseLegacy s ≡ Metadata m →
     take 16 s ≡ legacyBytes (m .«file_len») (m .«elem_cnt») (m .«first_pos») (m .«last_pos»)
@@ -90,10 +87,8 @@ legacy-bytes s m b e =
     let i : metadata (word 4 s 0) (word 4 s 4) (word 4 s 8) (word 4 s 12) ≡ m = cc (g5 .1) in
     let long : 16 ≤ length s = leb-true 16 (length s) (g1 .0) in
     sym (bytesAt-part 16 s 0 (omega arith))
-    ∙ join4 {a = bytesAt 4 s 0} {b = bytesAt 4 s 4} {c = bytesAt 4 s 8} {d = bytesAt 4 s 12}
-    (sym (be-word 4 s 0 b))
-    (sym (be-word 4 s 4 b))
-    (sym (be-word 4 s 8 b))
+    ∙ append-both
+    (append-both (append-both (sym (be-word 4 s 0 b)) (sym (be-word 4 s 4 b))) (sym (be-word 4 s 8 b)))
     (sym (be-word 4 s 12 b))
     ∙ ap (λ (x : QueueMetadata). legacyBytes (x .«file_len») (x .«elem_cnt») (x .«first_pos») (x .«last_pos»)) i
 
@@ -151,10 +146,6 @@ module _ (fileLen count first last : ℕ) (hn : fileLen < 2 ^ 63) (hc : count < 
       (met _ _ _ (rw vq (lt-ltb last (2 ^ 63) hl))
       (rw (vn, vc, vp, vq))))))))
 
-join5 : {a b c d e a' b' c' d' e' : List ℕ} → a ≡ a' → b ≡ b' → c ≡ c' → d ≡ d' → e ≡ e' →
-    a ++ b ++ c ++ d ++ e ≡ a' ++ b' ++ c' ++ d' ++ e'
-join5 p q r t u = cc
-
 top-or-not : (word : ℕ) (b : Bool) → leb (2 ^ 31) word ≡ b → word < 2 ^ 32 → word % 2 ^ 31 ≡ 1 → (word ≡ 0x8000_0001) ⊎ (word ≡ 1)
 top-or-not word true t h e = let l : 2 ^ 31 ≤ word = leb-true (2 ^ 31) word t in inl (omega arith)
 top-or-not word false t h e = let l : word < 2 ^ 31 = leb-false (2 ^ 31) word t in inr (omega arith)
@@ -178,10 +169,9 @@ module _ (s : List ℕ) (m : QueueMetadata) (b : Bytes s) (e : parseV1 s ≡ Met
       let i : metadata (word 8 s 4) (word 4 s 12) (word 8 s 16) (word 8 s 24) ≡ m = cc (g6 .1) in
       let long : 32 ≤ length s = leb-true 32 (length s) (g1 .0) in
       sym (bytesAt-part 32 s 0 (omega arith))
-      ∙ join5 {a = bytesAt 4 s 0} {b = bytesAt 8 s 4} {c = bytesAt 4 s 12} {d = bytesAt 8 s 16} {e = bytesAt 8 s 24}
-      (sym (be-word 4 s 0 b))
-      (sym (be-word 8 s 4 b))
-      (sym (be-word 4 s 12 b))
-      (sym (be-word 8 s 16 b))
+      ∙ append-both
+      (append-both
+      (append-both (append-both (sym (be-word 4 s 0 b)) (sym (be-word 8 s 4 b))) (sym (be-word 4 s 12 b)))
+      (sym (be-word 8 s 16 b)))
       (sym (be-word 8 s 24 b))
       ∙ ap (λ (x : QueueMetadata). v1Layout (word 4 s 0) (x .«file_len») (x .«elem_cnt») (x .«first_pos») (x .«last_pos»)) i

@@ -11,7 +11,7 @@ use Rattle.refusal.specs.declared.Refusal.{Refusal}
 use Rattle.refusal.specs.declared.Verdict.the-variants.{Granted}
 use Rattle.refusal.proofs.Laws.{met, granted, keep}
 use Rattle.wire.specs.Wire.{Bytes, be, word, bytesAt}
-use Rattle.wire.proofs.Numbers.{bytes-layout, beVal-be, be-word, bytesAt-part, startsWith-take}
+use Rattle.wire.proofs.Numbers.{bytes-layout, append-both, beVal-be, be-word, bytesAt-part, startsWith-take}
 use Rattle.crc.specs.Crc.{crcOf}
 use Rattle.crc.proofs.Limits.{crcOf-lt}
 use Rattle.header.specs.Slot.{Fits, slotStart, slotFields, slotBytes, slotData, encodeSlot, slotAt, parseSlot}
@@ -103,13 +103,6 @@ module _ (d : SlotData) (f : Fits d) where
 differ : {r : Refusal} {d : SlotData} → Refused r ≡ Slot d → ⊥
 differ e = let z : _≡_ {A = ℕ} 0 1 = cc in omega arith
 
-join7 : {a b c d e f g a' b' c' d' e' f' g' : List ℕ} → a ≡ a' → b ≡ b' → c ≡ c' → d ≡ d' → e ≡ e' → f ≡ f' → g ≡ g' →
-    a ++ b ++ c ++ d ++ e ++ f ++ g ≡ a' ++ b' ++ c' ++ d' ++ e' ++ f' ++ g'
-join7 h1 h2 h3 h4 h5 h6 h7 = cc
-
-join2 : {a b a' b' : List ℕ} → a ≡ a' → b ≡ b' → a ++ b ≡ a' ++ b'
-join2 p q = cc
-
 -- what bytes that parse have
 record Parsed (s : List ℕ) (d : SlotData) : Type 0 where
   pub long : 56 ≤ length s
@@ -156,13 +149,16 @@ module _ (s : List ℕ) (d : SlotData) (b : Bytes s) (e : parseSlot s ≡ Slot d
   fields =
       let w = parsed s d e in
       sym (bytesAt-part 52 s 0 (omega (arith, w .long)))
-      ∙ join7
-      (bytesAt-part 8 s 0 (omega (arith, w .long)) ∙ w .starts)
-      (sym (be-word 8 s 8 b))
-      (sym (be-word 4 s 16 b))
-      (sym (be-word 8 s 20 b))
-      (sym (be-word 8 s 28 b))
-      (sym (be-word 8 s 36 b))
+      ∙ append-both
+      (append-both
+      (append-both
+      (append-both
+      (append-both
+      (append-both (bytesAt-part 8 s 0 (omega (arith, w .long)) ∙ w .starts) (sym (be-word 8 s 8 b)))
+      (sym (be-word 4 s 16 b)))
+      (sym (be-word 8 s 20 b)))
+      (sym (be-word 8 s 28 b)))
+      (sym (be-word 8 s 36 b)))
       (sym (be-word 8 s 44 b))
 
   -- what parses determines its bytes
@@ -170,6 +166,6 @@ module _ (s : List ℕ) (d : SlotData) (b : Bytes s) (e : parseSlot s ≡ Slot d
   parsed-bytes =
       let w = parsed s d e in
       take-add 52 4 s
-      ∙ join2 fields
+      ∙ append-both fields
       (sym (bytesAt-part 4 s 52 (omega (arith, w .long))) ∙ sym (be-word 4 s 52 b) ∙ ap (be 4) (w .sums ∙ ap crcOf fields))
       ∙ ap slotBytes (w .same)

@@ -43,6 +43,10 @@ bytes-bytesAt zero s at h i = omega arith
 bytes-bytesAt (suc w) s at h zero = h at
 bytes-bytesAt (suc w) s at h (suc i) = bytes-bytesAt w s (at + 1) h i
 
+-- two lists joined are equal where their parts are
+pub append-both : {a b a' b' : List ℕ} → a ≡ a' → b ≡ b' → a ++ b ≡ a' ++ b'
+append-both p q = cc
+
 -- ---- lengths
 
 pub length-be : (w n : ℕ) → length (be w n) ≡ w
