@@ -47,20 +47,21 @@ pub fn encode_v2_element_header(seq: u64, prev_phys: u64, payload_len: u64) -> E
             bytes: [0; 28],
         };
     }
+    let len = payload_len as u32;
     EncodedHeader {
         answer: Verdict::Granted,
-        bytes: header_bytes(seq, prev_phys, payload_len as u32),
+        bytes: header_bytes(seq, prev_phys, len),
     }
 }
 
-fn header_bytes(seq: u64, prev_phys: u64, payload_len: u32) -> [u8; 28]
-    ensures { λ r. ⌜ r ≡ headerBytes seq «prev_phys» «payload_len» ⌝ }
+fn header_bytes(seq: u64, prev_phys: u64, len: u32) -> [u8; 28]
+    ensures { λ r. ⌜ r ≡ headerBytes seq «prev_phys» len ⌝ }
 {
     let mut hdr = [0u8; 28];
     wire::put(&mut hdr, 0, b"ITHD");
     wire::put_u64(&mut hdr, 4, seq);
     wire::put_u64(&mut hdr, 12, prev_phys);
-    wire::put_u32(&mut hdr, 20, payload_len);
+    wire::put_u32(&mut hdr, 20, len);
     let sum = crc::crc32(&hdr[..24]);
     wire::put_u32(&mut hdr, 24, sum);
     hdr
@@ -78,23 +79,24 @@ pub fn parse_v2_element_header(s: &[u8], capacity: u64) -> ParsedHeader
     }
     let seq = wire::get_u64(s, 4);
     let prev_pos = wire::get_u64(s, 12);
-    let payload_len = wire::get_u32(s, 20);
+    let len = wire::get_u32(s, 20);
     let stored = wire::get_u32(s, 24);
     let sum = crc::crc32(&s[..24]);
-    judge_header(seq, prev_pos, payload_len, stored, sum, capacity)
+    judge_header(seq, prev_pos, len, stored, sum, capacity)
 }
 
+// A header's length is an i32 in the file, and not negative.
 fn judge_header(
     seq: u64,
     prev_pos: u64,
-    payload_len: u32,
+    len: u32,
     stored: u32,
     sum: u32,
     capacity: u64,
 ) -> ParsedHeader
-    ensures { λ r. ⌜ r ≡ judgeHeader seq «prev_pos» «payload_len» stored sum capacity ⌝ }
+    ensures { λ r. ⌜ r ≡ judgeHeader seq «prev_pos» len stored sum capacity ⌝ }
 {
-    if payload_len >= 0x8000_0000 {
+    if len >= 0x8000_0000 {
         return ParsedHeader::Refused(Refusal::HEADER_LENGTH);
     }
     if seq == 0 {
@@ -103,12 +105,12 @@ fn judge_header(
     if stored != sum {
         return ParsedHeader::Refused(Refusal::HEADER_CRC);
     }
-    let len = payload_len as u64;
-    if len + 44 > capacity {
+    let payload_len = len as u64;
+    if payload_len + 44 > capacity {
         return ParsedHeader::Refused(Refusal::HEADER_SPAN);
     }
     ParsedHeader::Header(V2ElementHeader {
-        payload_len: len,
+        payload_len: payload_len,
         seq: seq,
         prev_pos: prev_pos,
     })

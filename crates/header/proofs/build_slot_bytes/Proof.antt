@@ -1,8 +1,7 @@
 -- `header::build_slot_bytes` meets its contract: the stores lay out a slot.
 -- Assumes nothing.
-use mathlib.Core.Path.{sym}
 use native.Mathlib.Omega.{arith}
-use lib.Seq.{length-take-le}
+use lib.ListN.{length-take}
 use Rattle.header.proofs.Stores.{slot-laid}
 use borrow.Author.Needs.{needs}
 use Rattle.header.proofs.build_slot_bytes.Statement.{statement}
@@ -66,7 +65,7 @@ array-share-prefix-slot : tie.Need-array-share-prefix-slot
 array-share-prefix-slot c = search needs
 
 slice-aggregate-crc32 : tie.Need-slice-aggregate-crc32
-slice-aggregate-crc32 c = sym (length-take-le 52 (c .before .before .put-u645 .last .0) (omega arith))
+slice-aggregate-crc32 c = rw length-take (omega arith)
 
 crc32-requires : tie.Need-crc32-requires
 crc32-requires c κs = search needs

@@ -1,9 +1,7 @@
 -- `header::parse_slot` meets its contract: at each answer the tests that led there, and the fields by what each read ensures.
 -- Assumes nothing.
-use mathlib.Core.Path.{sym}
 use native.Mathlib.Omega.{arith}
-use lib.Seq.{length-take-le}
-use denote.Ref.{now}
+use lib.ListN.{length-take}
 use Rattle.refusal.proofs.Laws.{decide}
 use borrow.Author.Needs.{needs}
 use Rattle.header.proofs.parse_slot.Statement.{statement}
@@ -28,9 +26,7 @@ get-u32-requires : tie.Need-get-u32-requires
 get-u32-requires c κs = search needs
 
 slice-aggregate-crc32 : tie.Need-slice-aggregate-crc32
-slice-aggregate-crc32 c =
-    let a = c .before .before .before .before .before .before .before .before .args in
-    sym (length-take-le 52 (now (a .s)) (omega arith))
+slice-aggregate-crc32 c = rw length-take (omega arith)
 
 crc32-requires : tie.Need-crc32-requires
 crc32-requires c κs = search needs

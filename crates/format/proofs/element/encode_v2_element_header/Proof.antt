@@ -8,8 +8,8 @@ use Rattle.format.proofs.element.encode_v2_element_header.Tie as tie
 returns : tie.Need-returns
 returns c = search decide
 
-cast-header-bytes : tie.Need-cast-header-bytes
-cast-header-bytes c = search needs
+cast-len : tie.Need-cast-len
+cast-len c = search needs
 
 header-bytes-requires : tie.Need-header-bytes-requires
 header-bytes-requires c κs = search needs
@@ -19,4 +19,4 @@ returns-2 c = rw (c .header-bytes .ensures) (search decide)
 
 pub encode-v2-element-header-spec : {M : Type 1} → statement M
 encode-v2-element-header-spec =
-    tie.close (tie.spec returns cast-header-bytes header-bytes-requires returns-2)
+    tie.close (tie.spec returns cast-len header-bytes-requires returns-2)

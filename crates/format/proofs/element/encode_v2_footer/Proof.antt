@@ -1,8 +1,7 @@
 -- `format::element::encode_v2_footer` meets its contract: the stores lay out a footer.
 -- Assumes nothing.
-use mathlib.Core.Path.{sym}
 use native.Mathlib.Omega.{arith}
-use lib.Seq.{length-take-le}
+use lib.ListN.{length-take}
 use denote.Ref.{now}
 use Rattle.format.proofs.Stores.{footer-laid}
 use borrow.Author.Needs.{needs}
@@ -28,7 +27,7 @@ array-share-prefix-ftr : tie.Need-array-share-prefix-ftr
 array-share-prefix-ftr c = search needs
 
 slice-aggregate-crc32-joined : tie.Need-slice-aggregate-crc32-joined
-slice-aggregate-crc32-joined c = sym (length-take-le 12 (c .before .before .put-u64 .last .0) (omega arith))
+slice-aggregate-crc32-joined c = rw length-take (omega arith)
 
 crc32-joined-requires : tie.Need-crc32-joined-requires
 crc32-joined-requires c κs = search needs

@@ -1,8 +1,7 @@
 -- `format::element::header_bytes` meets its contract: the stores lay out a header.
 -- Assumes nothing.
-use mathlib.Core.Path.{sym}
 use native.Mathlib.Omega.{arith}
-use lib.Seq.{length-take-le}
+use lib.ListN.{length-take}
 use Rattle.format.proofs.Stores.{header-laid}
 use borrow.Author.Needs.{needs}
 use Rattle.format.proofs.element.header_bytes.Statement.{statement}
@@ -39,7 +38,7 @@ array-share-prefix-hdr : tie.Need-array-share-prefix-hdr
 array-share-prefix-hdr c = search needs
 
 slice-aggregate-crc32 : tie.Need-slice-aggregate-crc32
-slice-aggregate-crc32 c = sym (length-take-le 24 (c .before .before .put-u32 .last .0) (omega arith))
+slice-aggregate-crc32 c = rw length-take (omega arith)
 
 crc32-requires : tie.Need-crc32-requires
 crc32-requires c κs = search needs
@@ -59,7 +58,7 @@ returns c =
     let p2 = p3 .before .before .before in
     let p1 = p2 .before .before .before in
     let a = p1 .before .before .before .args in
-    header-laid (a .seq) (a .prev-phys) (a .payload-len)
+    header-laid (a .seq) (a .prev-phys) (a .len)
     (p1 .put .ensures)
     (p2 .put-u64 .ensures)
     (p3 .put-u642 .ensures)

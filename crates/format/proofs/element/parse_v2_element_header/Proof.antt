@@ -1,9 +1,7 @@
 -- `format::element::parse_v2_element_header` meets its contract: at each answer the tests that led there, and the fields by what each read ensures.
 -- Assumes nothing.
-use mathlib.Core.Path.{sym}
 use native.Mathlib.Omega.{arith}
-use lib.Seq.{length-take-le}
-use denote.Ref.{now}
+use lib.ListN.{length-take}
 use Rattle.refusal.proofs.Laws.{decide}
 use borrow.Author.Needs.{needs}
 use Rattle.format.proofs.element.parse_v2_element_header.Statement.{statement}
@@ -34,9 +32,7 @@ get-u32-requires-2 : tie.Need-get-u32-requires-2
 get-u32-requires-2 c κs = search needs
 
 slice-aggregate-crc32 : tie.Need-slice-aggregate-crc32
-slice-aggregate-crc32 c =
-    let a = c .before .before .before .before .before .before .before .before .before .before .args in
-    sym (length-take-le 24 (now (a .s)) (omega arith))
+slice-aggregate-crc32 c = rw length-take (omega arith)
 
 crc32-requires : tie.Need-crc32-requires
 crc32-requires c κs = search needs

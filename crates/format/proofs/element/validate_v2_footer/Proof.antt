@@ -1,9 +1,7 @@
 -- `format::element::validate_v2_footer` meets its contract: at each answer the tests that led there, said of what each read ensures.
 -- Assumes nothing.
-use mathlib.Core.Path.{sym}
 use native.Mathlib.Omega.{arith}
-use lib.Seq.{length-take-le}
-use denote.Ref.{now}
+use lib.ListN.{length-take}
 use Rattle.refusal.proofs.Laws.{decide}
 use borrow.Author.Needs.{needs}
 use Rattle.format.proofs.element.validate_v2_footer.Statement.{statement}
@@ -33,9 +31,7 @@ get-u32-requires : tie.Need-get-u32-requires
 get-u32-requires c κs = search needs
 
 slice-aggregate-crc32-of-three : tie.Need-slice-aggregate-crc32-of-three
-slice-aggregate-crc32-of-three c =
-    let a = c .before .before .before .before .before .before .before .before .before .before .before .args in
-    sym (length-take-le 12 (now (a .s)) (omega arith))
+slice-aggregate-crc32-of-three c = rw length-take (omega arith)
 
 crc32-of-three-requires : tie.Need-crc32-of-three-requires
 crc32-of-three-requires c κs = search needs
