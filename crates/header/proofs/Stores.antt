@@ -7,8 +7,7 @@ use lib.ListN.{length, take, replicate}
 use lib.Seq.{take-append-seam}
 use Rattle.wire.specs.Wire.{be, putAt}
 use Rattle.wire.proofs.Stores.{putAt-behind}
-use Rattle.crc.specs.Crc.{crcOf}
-use Rattle.header.specs.Slot.{slotStart, slotFields, slotBytes}
+use Rattle.header.specs.Slot.{slotStart, slotFields}
 use Rattle.header.specs.declared.SlotData.{SlotData}
 
 -- what is not laid out yet
@@ -31,7 +30,7 @@ abbrev version : List ℕ
 version = 2 ∷ 0 ∷ 0 ∷ 0 ∷ []
 
 module _ (x : SlotData) where
-  fields-laid : {a b c d e f g h : List ℕ} →
+  pub fields-laid : {a b c d e f g h : List ℕ} →
       a ≡ putAt (zeros 56) 0 magic →
       b ≡ putAt a 4 version →
       c ≡ putAt b 8 (be 8 (x .«file_length»)) →
@@ -55,17 +54,3 @@ module _ (x : SlotData) where
       let g = putAt-behind upToLast (zeros 8) (zeros 12) (be 8 (x .generation)) refl f pg in
       let upToGeneration : List ℕ = upToLast ++ be 8 (x .generation) in
       putAt-behind upToGeneration (zeros 8) (zeros 4) (be 8 (x .«next_sequence_number»)) refl g ph
-
-  pub slot-laid : {a b c d e f g h i : List ℕ} {sum : ℕ} →
-      a ≡ putAt (zeros 56) 0 magic →
-      b ≡ putAt a 4 version →
-      c ≡ putAt b 8 (be 8 (x .«file_length»)) →
-      d ≡ putAt c 16 (be 4 (x .«element_count»)) →
-      e ≡ putAt d 20 (be 8 (x .«first_position»)) →
-      f ≡ putAt e 28 (be 8 (x .«last_position»)) →
-      g ≡ putAt f 36 (be 8 (x .generation)) →
-      h ≡ putAt g 44 (be 8 (x .«next_sequence_number»)) →
-      sum ≡ crcOf (take 52 h) →
-      i ≡ putAt h 52 (be 4 sum) →
-      i ≡ slotBytes x
-  slot-laid pa pb pc pd pe pf pg ph ps pi = sealed crcOf (slotFields x) (fields-laid pa pb pc pd pe pf pg ph) ps pi

@@ -2,7 +2,9 @@
 -- Assumes nothing.
 use native.Mathlib.Omega.{arith}
 use lib.ListN.{length-take}
-use Rattle.header.proofs.Stores.{slot-laid}
+use Rattle.crc.specs.Crc.{crcOf}
+use Rattle.header.specs.Slot.{slotFields}
+use Rattle.header.proofs.Stores.{sealed, fields-laid}
 use borrow.Author.Needs.{needs}
 use Rattle.header.proofs.build_slot_bytes.Statement.{statement}
 use Rattle.header.proofs.build_slot_bytes.Tie as tie
@@ -88,8 +90,9 @@ returns c =
     let p3 = p4 .before .before .before in
     let p2 = p3 .before .before .before in
     let p1 = p2 .before .before .before .before in
-    slot-laid
-    (p1 .before .before .before .args .«data»)
+    let d = p1 .before .before .before .args .«data» in
+    let fields =
+    fields-laid d
     (p1 .put .ensures)
     (p2 .put2 .ensures)
     (p3 .put-u64 .ensures)
@@ -97,9 +100,8 @@ returns c =
     (p5 .put-u642 .ensures)
     (p6 .put-u643 .ensures)
     (p7 .put-u644 .ensures)
-    (p8 .put-u645 .ensures)
-    (p9 .crc32 .ensures)
-    (p10 .put-u322 .ensures)
+    (p8 .put-u645 .ensures) in
+    sealed crcOf (slotFields d) fields (p9 .crc32 .ensures) (p10 .put-u322 .ensures)
 
 pub build-slot-bytes-spec : {M : Type 1} → statement M
 build-slot-bytes-spec =
