@@ -1,11 +1,8 @@
 // The operations on checksums: `crc HEX` and `crc_joined HEX HEX`.
-// As in every family, a name is told first and what it asks for is run then: a chain of names that holds no buffer is proved fast.
-use crate::output::Ran;
-use crate::output::put;
-use crate::output::put_checksum;
-use crate::output::put_refusal;
-use crate::part::front;
-use script::Bytes;
+use crate::answer::Answer;
+use crate::words::Shape;
+use crate::words::place;
+use refusal::Verdict;
 
 enum Operation {
     Crc,
@@ -14,51 +11,30 @@ enum Operation {
 }
 
 fn named(name: &[u8]) -> Operation {
-    if check::same(name, b"crc") {
-        return Operation::Crc;
-    }
-    if check::same(name, b"crc_joined") {
-        return Operation::CrcJoined;
-    }
-    Operation::Other
-}
-
-// Runs a line that is one of these operations.
-pub fn run(line: &[u8], a: &mut [u8], b: &mut [u8], buf: &mut [u8], len: usize) -> Ran {
-    match named(script::word(line, 0)) {
-        Operation::Crc => run_crc(line, a, buf, len),
-        Operation::CrcJoined => run_crc_joined(line, a, b, buf, len),
-        Operation::Other => Ran::Bad,
+    match place(name, b"crc crc_joined") {
+        0 => Operation::Crc,
+        1 => Operation::CrcJoined,
+        _ => Operation::Other,
     }
 }
 
-fn run_crc(line: &[u8], a: &mut [u8], buf: &mut [u8], len: usize) -> Ran {
-    if script::count_words(line) != 2 {
-        return Ran::Bad;
+pub fn shape(name: &[u8]) -> Shape {
+    match named(name) {
+        Operation::Crc => Shape::ONE_STRING,
+        Operation::CrcJoined => Shape::TWO_STRINGS,
+        Operation::Other => Shape::NONE,
     }
-    let Bytes::Of(n) = script::parse_bytes(script::word(line, 1), a) else {
-        return Ran::Bad;
-    };
-    put_answer(buf, len, crc::crc32(front(a, n)))
 }
 
-fn run_crc_joined(line: &[u8], a: &mut [u8], b: &mut [u8], buf: &mut [u8], len: usize) -> Ran {
-    if script::count_words(line) != 3 {
-        return Ran::Bad;
+pub fn answer(name: &[u8], a: &[u8], b: &[u8]) -> Answer {
+    match named(name) {
+        Operation::Crc => sum(crc::crc32(a)),
+        Operation::CrcJoined => sum(crc::crc32_joined(a, b)),
+        Operation::Other => Answer::bad(),
     }
-    let Bytes::Of(n) = script::parse_bytes(script::word(line, 1), a) else {
-        return Ran::Bad;
-    };
-    let Bytes::Of(m) = script::parse_bytes(script::word(line, 2), b) else {
-        return Ran::Bad;
-    };
-    put_answer(buf, len, crc::crc32_joined(front(a, n), front(b, m)))
 }
 
-// Appends the line of a checksum, which is never refused.
-fn put_answer(buf: &mut [u8], len: usize, sum: u32) -> Ran {
-    let a = put_refusal(buf, len, 0, 0, 0);
-    let b = put(buf, a, b" : ");
-    let c = put_checksum(buf, b, sum);
-    Ran::Printed(put(buf, c, b"\n"))
+// A checksum, which is never refused.
+fn sum(sum: u32) -> Answer {
+    Answer::of_bytes(Verdict::Granted, &wire::u32_bytes(sum))
 }

@@ -1,9 +1,14 @@
 // Runs a script of operations, read from standard input, and prints one line for each.
-// Here stands what there is one of: the script, two buffers for the byte strings of a line, and the text that waits to be written.
+// Here stands what there is one of: the script, the byte strings of a line, and the text that waits to be written.
+mod answer;
 mod checksum;
+mod elements;
+mod file_headers;
 mod output;
 mod part;
 mod run;
+mod slots;
+mod words;
 
 ghost use mathlib.Core.Path.{_≡_};
 ghost use lib.ListN.{length};
@@ -15,19 +20,18 @@ fn script_room() -> [u8; 1048576]
     [0; 1048576]
 }
 
-// The longest byte string of a line.
-fn string_room() -> [u8; 262144]
-    ensures { λ r. ⌜ 262144 ≡ length r ⌝ }
+// The byte strings of a line, of which there are two at most.
+fn string_room() -> [u8; 524288]
+    ensures { λ r. ⌜ 524288 ≡ length r ⌝ }
 {
-    [0; 262144]
+    [0; 524288]
 }
 
 fn main() {
     let mut text = script_room();
     let n = io::read_full(libc::STDIN_FILENO, &mut text);
-    let mut a = string_room();
-    let mut b = string_room();
+    let mut room = string_room();
     let mut buf = io::large_buffer();
-    let len = run::run_script(&text[..n], &mut a, &mut b, &mut buf);
+    let len = run::run_script(&text[..n], &mut room, &mut buf);
     output::flush(&buf, len);
 }

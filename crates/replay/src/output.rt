@@ -1,13 +1,8 @@
 // The text that waits to be written: the first `len` bytes of `buf`. It is written where `buf` is full and at the end, so that a
 // script takes few system calls; each function that appends to it answers how many bytes wait then.
+use crate::answer::Answer;
 use crate::part::front;
-
-// What a family of operations answers to a line: how many bytes wait after its answer, or that the line is none of its operations
-// or one with wrong words, and printed nothing.
-pub enum Ran {
-    Printed(usize),
-    Bad,
-}
+use refusal::Refusal;
 
 // Writes what waits.
 pub fn flush(buf: &[u8], len: usize) {
@@ -15,7 +10,7 @@ pub fn flush(buf: &[u8], len: usize) {
 }
 
 // Appends `text`. Where there is no room for it behind what waits, both are written at once.
-pub fn put(buf: &mut [u8], len: usize, text: &[u8]) -> usize {
+fn put(buf: &mut [u8], len: usize, text: &[u8]) -> usize {
     if len <= buf.len() {
         if text.len() <= buf.len() - len {
             wire::copy_into(&mut buf[len..], text);
@@ -27,25 +22,81 @@ pub fn put(buf: &mut [u8], len: usize, text: &[u8]) -> usize {
     0
 }
 
+// Appends the line of an answer.
+pub fn put_answer(buf: &mut [u8], len: usize, answer: Answer) -> usize {
+    if answer.bad {
+        return put(buf, len, b"bad\n");
+    }
+    let refusal = answer.refusal;
+    let start = put_refusal(buf, len, refusal);
+    let end = put_result(buf, start, answer);
+    put(buf, end, b"\n")
+}
+
+// Appends what begins every answer: the refusal's number and its two values, all 0 where nothing is refused.
+fn put_refusal(buf: &mut [u8], len: usize, refusal: Refusal) -> usize {
+    let values = [refusal.number as u64, refusal.first, refusal.second];
+    let end = put_decimals(buf, len, &values, 3);
+    put(buf, end, b" : ")
+}
+
+// Appends what an answer has where nothing is refused.
+fn put_result(buf: &mut [u8], len: usize, answer: Answer) -> usize {
+    let numbers = answer.numbers;
+    let bytes = answer.bytes;
+    let start = put_letter(buf, len, answer.letter);
+    let end = put_decimals(buf, start, &numbers, answer.number_count);
+    put_hex(buf, end, front(&bytes, answer.byte_count))
+}
+
+// Appends a letter and a space, where there is a letter.
+fn put_letter(buf: &mut [u8], len: usize, letter: u8) -> usize {
+    if letter == 0 {
+        return len;
+    }
+    put(buf, len, &[letter, b' '])
+}
+
+// Appends the first `count` numbers in decimal, parted by single spaces.
+fn put_decimals(buf: &mut [u8], len: usize, numbers: &[u64], count: usize) -> usize {
+    let mut at = len;
+    let mut i = 0;
+    while i < numbers.len() {
+        if i >= count {
+            return at;
+        }
+        let start = put_space_before(buf, at, i);
+        at = put_decimal(buf, start, numbers[i]);
+        i += 1;
+    }
+    at
+}
+
+// Appends the space that parts the i-th of several words from the one before, which the first has not.
+fn put_space_before(buf: &mut [u8], len: usize, i: usize) -> usize {
+    if i == 0 { len } else { put(buf, len, b" ") }
+}
+
 // Appends a number in decimal.
-pub fn put_decimal(buf: &mut [u8], len: usize, n: u64) -> usize {
+fn put_decimal(buf: &mut [u8], len: usize, n: u64) -> usize {
     let mut text = [0u8; 20];
     let k = io::decimal(n, &mut text);
     put(buf, len, &text[..k])
 }
 
-// Appends a checksum: eight hex digits.
-pub fn put_checksum(buf: &mut [u8], len: usize, sum: u32) -> usize {
-    let mut text = [0u8; 16];
-    let k = io::hex(sum as u64, 8, &mut text);
-    put(buf, len, &text[..k])
+// Appends bytes in lower-case hex.
+fn put_hex(buf: &mut [u8], len: usize, bytes: &[u8]) -> usize {
+    let mut at = len;
+    let mut i = 0;
+    while i < bytes.len() {
+        at = put_hex_byte(buf, at, bytes[i]);
+        i += 1;
+    }
+    at
 }
 
-// Appends what begins every answer: the refusal's number and its two values, all 0 where nothing is refused.
-pub fn put_refusal(buf: &mut [u8], len: usize, number: u64, first: u64, second: u64) -> usize {
-    let a = put_decimal(buf, len, number);
-    let b = put(buf, a, b" ");
-    let c = put_decimal(buf, b, first);
-    let d = put(buf, c, b" ");
-    put_decimal(buf, d, second)
+fn put_hex_byte(buf: &mut [u8], len: usize, byte: u8) -> usize {
+    let mut text = [0u8; 16];
+    let k = io::hex(byte as u64, 2, &mut text);
+    put(buf, len, &text[..k])
 }

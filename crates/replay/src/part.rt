@@ -4,3 +4,8 @@
 pub fn front(s: &[u8], n: usize) -> &[u8] {
     if n <= s.len() { &s[0..n] } else { s }
 }
+
+// What stands behind the first n bytes, or nothing where there are fewer.
+pub fn behind(s: &[u8], n: usize) -> &[u8] {
+    if n <= s.len() { &s[n..] } else { &s[0..0] }
+}

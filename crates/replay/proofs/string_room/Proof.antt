@@ -1,4 +1,4 @@
--- `replay::string_room` meets its contract: what is repeated 262144 times has that length.
+-- `replay::string_room` meets its contract: what is repeated 524288 times has that length.
 -- Assumes nothing.
 use mathlib.Core.Path.{sym}
 use Prim.Native.Nat.{ℕ}
@@ -7,7 +7,7 @@ use Rattle.replay.proofs.string_room.Statement.{statement}
 use Rattle.replay.proofs.string_room.Tie as tie
 
 returns : tie.Need-returns
-returns c = sym (length-replicate {A = ℕ} 262144 0)
+returns c = sym (length-replicate {A = ℕ} 524288 0)
 
 pub string-room-spec : {M : Type 1} → statement M
 string-room-spec = tie.close (tie.spec returns)
