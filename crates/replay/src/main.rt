@@ -4,6 +4,7 @@ mod answer;
 mod checksum;
 mod elements;
 mod file_headers;
+mod operation;
 mod output;
 mod part;
 mod run;

@@ -33,7 +33,7 @@ pub fn put_answer(buf: &mut [u8], len: usize, answer: Answer) -> usize {
     put(buf, end, b"\n")
 }
 
-// Appends what begins every answer: the refusal's number and its two values, all 0 where nothing is refused.
+// Appends what begins every answer: the refusal's number and its two values, all 0 where nothing is refused, and the colon.
 fn put_refusal(buf: &mut [u8], len: usize, refusal: Refusal) -> usize {
     let values = [refusal.number as u64, refusal.first, refusal.second];
     let end = put_decimals(buf, len, &values, 3);

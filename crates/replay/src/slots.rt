@@ -1,69 +1,30 @@
 // The operations on header slots: `slot_encode`, `slot_parse`, `slot_check` and `elect`.
 use crate::answer::Answer;
 use crate::words::Numbers;
-use crate::words::Shape;
-use crate::words::place;
 use format::Elected;
 use format::V2OpenState;
 use header::HeaderSlot;
 use header::ParsedSlot;
 use header::SlotData;
 
-enum Operation {
-    Encode,
-    Parse,
-    Check,
-    Elect,
-    Other,
-}
-
-fn named(name: &[u8]) -> Operation {
-    match place(name, b"slot_encode slot_parse slot_check elect") {
-        0 => Operation::Encode,
-        1 => Operation::Parse,
-        2 => Operation::Check,
-        3 => Operation::Elect,
-        _ => Operation::Other,
-    }
-}
-
-pub fn shape(name: &[u8]) -> Shape {
-    match named(name) {
-        Operation::Encode => Shape::of_numbers(7),
-        Operation::Parse => Shape::ONE_STRING,
-        Operation::Check => Shape::of_numbers(8),
-        Operation::Elect => Shape::TWO_STRINGS,
-        Operation::Other => Shape::NONE,
-    }
-}
-
-pub fn answer(name: &[u8], n: Numbers, a: &[u8], b: &[u8]) -> Answer {
-    match named(name) {
-        Operation::Encode => encode(n),
-        Operation::Parse => parse(a),
-        Operation::Check => check(n),
-        Operation::Elect => elect(a, b),
-        Operation::Other => Answer::bad(),
-    }
-}
-
 // `slot_encode FILE_LEN COUNT FIRST LAST GENERATION NEXT_SEQ`
-fn encode(n: Numbers) -> Answer {
+pub fn encode(n: Numbers) -> Answer {
     let encoded = header::encode_v2_slot(n.first, n.second, n.third, n.fourth, n.fifth, n.sixth);
     let verdict = encoded.answer;
     Answer::of_bytes(verdict, &encoded.bytes)
 }
 
 // `slot_parse HEX`
-fn parse(slot: &[u8]) -> Answer {
+pub fn parse(slot: &[u8]) -> Answer {
     match header::parse_slot(slot) {
         ParsedSlot::Slot(data) => fields(data),
         ParsedSlot::Refused(refusal) => Answer::of_refusal(refusal),
     }
 }
 
-// `slot_check FILE_LEN COUNT FIRST LAST GENERATION NEXT_SEQ REAL_LEN`: what is checked is a slot's data, whose count has 32 bits.
-fn check(n: Numbers) -> Answer {
+// `slot_check FILE_LEN COUNT FIRST LAST GENERATION NEXT_SEQ REAL_LEN`. What is checked is a slot's data, whose count has 32 bits: a
+// larger one is a bad word.
+pub fn check(n: Numbers) -> Answer {
     if n.second > 0xffff_ffff {
         return Answer::bad();
     }
@@ -79,8 +40,8 @@ fn check(n: Numbers) -> Answer {
     Answer::of_refusal(verdict.refusal())
 }
 
-// `elect HEX HEX`: a string that does not parse counts as no slot.
-fn elect(a: &[u8], b: &[u8]) -> Answer {
+// `elect HEX HEX`. A string that does not parse counts as no slot.
+pub fn elect(a: &[u8], b: &[u8]) -> Answer {
     let slot_a = header::parse_slot(a);
     let slot_b = header::parse_slot(b);
     match format::elect_canonical_slot(slot_a, slot_b) {

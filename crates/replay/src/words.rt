@@ -31,13 +31,18 @@ impl Shape {
         second_string: 2,
     };
 
-    // So many words, the name among them, and the others numbers.
-    pub fn of_numbers(count: usize) -> Shape {
+    // So many words, the name among them, with byte strings at these places.
+    pub fn of_words(count: usize, first_string: usize, second_string: usize) -> Shape {
         Shape {
             count: count,
-            first_string: 0,
-            second_string: 0,
+            first_string: first_string,
+            second_string: second_string,
         }
+    }
+
+    // So many words, the name among them, and no byte string.
+    pub fn of_numbers(count: usize) -> Shape {
+        Shape::of_words(count, 0, 0)
     }
 }
 
@@ -130,18 +135,14 @@ fn fill_numbers(line: &[u8], shape: Shape, out: &mut [u64]) -> bool {
 
 // The number that the i-th word spells, and 0 where the shape has no number there.
 fn number_at(line: &[u8], shape: Shape, i: usize) -> Number {
-    if !is_number(shape, i) {
+    if i >= shape.count {
+        return Number::Of(0);
+    }
+    if i == shape.first_string {
+        return Number::Of(0);
+    }
+    if i == shape.second_string {
         return Number::Of(0);
     }
     script::parse_number(script::word(line, i))
-}
-
-fn is_number(shape: Shape, i: usize) -> bool {
-    if i >= shape.count {
-        return false;
-    }
-    if i == shape.first_string {
-        return false;
-    }
-    i != shape.second_string
 }

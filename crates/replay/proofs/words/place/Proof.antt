@@ -1,9 +1,7 @@
--- `replay::words::place` is safe and ends: each turn is a word further.
+-- `replay::words::place` is safe and ends: each turn is one word further.
 -- Assumes nothing.
 use borrow.Author.Needs.{needs}
-use mathlib.Core.Path.{_≡_}
 use Prim.Native.Nat.{_≤_, _-_}
-use lib.ListN.{length}
 use Rattle.replay.proofs.words.place.Statement.{statement}
 use Rattle.replay.proofs.words.place.Tie as tie
 
