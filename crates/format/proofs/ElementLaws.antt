@@ -6,16 +6,16 @@ use mathlib.Core.List.{List, [], _∷_, _++_}
 use Prim.Native.Nat.{ℕ, _+_, _^_, _≤_, _<_}
 use native.Mathlib.Omega.{arith}
 use borrow.Author.Tests.{le-leb, lt-ltb, eq-eqb, ne-eqb, leb-true, ltb-true, eqb-true, eqb-false, not-true}
-use lib.ListN.{length, take, replicate}
+use lib.ListN.{length, take}
 use lib.Seq.{take-add}
-use Rattle.refusal.specs.Table.{elementTooBig}
 use Rattle.refusal.specs.declared.Refusal.{Refusal}
 use Rattle.refusal.specs.declared.Verdict.the-variants as Verdict
 use Rattle.refusal.proofs.Laws.{met, granted, keep}
-use Rattle.wire.specs.Wire.{Bytes, be, word, bytesAt}
+use Rattle.wire.specs.Wire.{Bytes, be, word}
 use Rattle.wire.proofs.Numbers.{bytes-layout, append-both, beVal-be, be-word, bytesAt-part, startsWith-take}
 use Rattle.crc.specs.Crc.{crcOf}
 use Rattle.crc.proofs.Limits.{crcOf-lt}
+use Rattle.header.proofs.Fields.{refused}
 use Rattle.format.specs.Element.{headerStart, headerFields, headerBytes, encodeHeader, elementSpan, parseHeader, footerStart, footerFields, footerBytes, checkFooter}
 use Rattle.format.specs.declared.element.V2ElementHeader.{V2ElementHeader}
 use Rattle.format.specs.declared.element.EncodedHeader.{EncodedHeader}
@@ -149,9 +149,6 @@ footer-check-encode seq payload h =
     (met _ _ _ refl
     (met _ _ _ (eq-eqb _ _ (beVal-be 8 seq h))
     (met _ _ _ (eq-eqb _ _ (beVal-be 4 (crcOf (payload ++ footerFields seq)) (crcOf-lt (payload ++ footerFields seq)))) refl))))
-
-refused : {r : Refusal} → Verdict.Refused r ≡ Verdict.Granted → ⊥
-refused e = let z : _≡_ {A = ℕ} 0 1 = cc in omega arith
 
 -- what is valid for an element is the footer that is encoded for it
 pub footer-bytes : (s : List ℕ) (seq : ℕ) (payload : List ℕ) → Bytes s → checkFooter s seq payload ≡ Verdict.Granted → take 16 s ≡ footerBytes seq payload

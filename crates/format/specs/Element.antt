@@ -12,7 +12,6 @@ use Rattle.refusal.specs.declared.Verdict as Answer
 use Rattle.refusal.specs.declared.Verdict.the-variants as Verdict
 use Rattle.wire.specs.Wire.{be, word, startsWith}
 use Rattle.crc.specs.Crc.{crcOf}
-use Rattle.format.specs.declared.element.V2ElementHeader.{V2ElementHeader}
 use Rattle.format.specs.declared.element.ParsedHeader.{ParsedHeader}
 use Rattle.format.specs.declared.element.ParsedHeader.the-variants.{Header, Refused}
 use Rattle.format.specs.declared.element.EncodedHeader.{EncodedHeader}
@@ -39,9 +38,13 @@ encodeHeader seq prev len =
 
 -- ---- what the header's bytes say
 
--- the bytes that an element takes: the payload's and 44 beside them
+-- the bytes of an element beside its payload: header and footer
+abbrev pub elementOverhead : ℕ
+elementOverhead = 44
+
+-- the bytes that an element takes
 abbrev pub elementSpan : ℕ → ℕ
-elementSpan len = len + 44
+elementSpan len = len + elementOverhead
 
 -- what the fields say: the first demand that is not met gives the answer
 abbrev pub judgeHeader : ℕ → ℕ → ℕ → ℕ → ℕ → ℕ → ParsedHeader

@@ -4,7 +4,7 @@ use lib.Dec.{ltb}
 use Rattle.refusal.specs.Table.{none, overflow}
 use Rattle.refusal.specs.Demand.{demand}
 use Rattle.refusal.specs.declared.Refusal.{Refusal}
-use Rattle.format.specs.declared.state.V2Format.{V2Format}
+use Rattle.format.specs.Element.{elementOverhead}
 use Rattle.format.specs.declared.state.FormatState.{FormatState}
 use Rattle.format.specs.declared.state.FormatState.the-variants.{Legacy, V1, V2}
 use Rattle.format.specs.declared.state.Span.{Span}
@@ -26,7 +26,7 @@ elemHdrLen (V2 f) = 28
 abbrev pub overhead : FormatState → ℕ
 overhead Legacy = 4
 overhead V1 = 4
-overhead (V2 f) = 44
+overhead (V2 f) = elementOverhead
 
 -- the payload's bytes and those beside it, where a u64 holds their number
 abbrev pub elemSpan : FormatState → ℕ → Span

@@ -12,7 +12,6 @@ use Rattle.header.specs.declared.HeaderSlot.the-variants.{A, B}
 use Rattle.header.specs.declared.SlotData.{SlotData}
 use Rattle.header.specs.declared.ParsedSlot as Read
 use Rattle.header.specs.declared.ParsedSlot.the-variants as Parsed
-use Rattle.format.specs.declared.slots.V2OpenState.{V2OpenState}
 use Rattle.format.specs.declared.slots.Elected.{Elected}
 use Rattle.format.specs.declared.slots.Elected.the-variants.{Slot, Refused}
 

@@ -2,10 +2,12 @@
 // The bytes are laid out in specs/Element.antt, as docs/FORMAT.md has them.
 ghost use mathlib.Core.Path.{_≡_};
 ghost use mathlib.Core.List.{_++_};
-ghost use Prim.Native.Nat.{_<_};
 ghost use Rattle.format.specs.Element.{headerBytes, encodeHeader, judgeHeader, parseHeader, parsedHeaderRefusal, footerBytes, checkFooter};
 use refusal::Refusal;
 use refusal::Verdict;
+
+// The bytes of an element beside its payload: header and footer.
+pub const V2_ELEM_OVERHEAD: u64 = 44;
 
 // What a header says of its element. The position of the element before is an offset in the file, or 0.
 pub struct V2ElementHeader {
@@ -106,7 +108,7 @@ fn judge_header(
         return ParsedHeader::Refused(Refusal::HEADER_CRC);
     }
     let payload_len = len as u64;
-    if payload_len + 44 > capacity {
+    if payload_len + V2_ELEM_OVERHEAD > capacity {
         return ParsedHeader::Refused(Refusal::HEADER_SPAN);
     }
     ParsedHeader::Header(V2ElementHeader {

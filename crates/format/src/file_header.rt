@@ -1,7 +1,7 @@
 // The file headers that came before V2: Legacy, 16 bytes, and V1, 32 bytes, each both ways.
 // The bytes are laid out in specs/FileHeader.antt, as docs/FORMAT.md has them.
 ghost use mathlib.Core.Path.{_≡_};
-ghost use Rattle.format.specs.FileHeader.{legacyBytes, refusedLegacy, encodeLegacy, judgeLegacy, parseLegacy, v1Bytes, refusedV1, encodeV1, judgeV1, parseV1, parsedMetadataRefusal};
+ghost use Rattle.format.specs.FileHeader.{judgeMetadata, legacyBytes, encodeLegacy, parseLegacy, v1Bytes, encodeV1, parseV1, parsedMetadataRefusal};
 use refusal::Refusal;
 use refusal::Verdict;
 
@@ -50,35 +50,27 @@ pub fn encode_legacy_header(
 ) -> EncodedLegacyHeader
     ensures { λ r. ⌜ r ≡ encodeLegacy «file_len» «elem_cnt» «first_phys» «last_phys» ⌝ }
 {
-    if file_len >= 0x8000_0000 {
-        return refuse_legacy(1);
-    }
-    if elem_cnt >= 0x8000_0000 {
-        return refuse_legacy(2);
-    }
-    if first_phys >= 0x8000_0000 {
-        return refuse_legacy(3);
-    }
-    if last_phys >= 0x8000_0000 {
-        return refuse_legacy(4);
-    }
-    EncodedLegacyHeader {
-        answer: Verdict::Granted,
-        bytes: legacy_bytes(
-            file_len as u32,
-            elem_cnt as u32,
-            first_phys as u32,
-            last_phys as u32,
-        ),
-    }
-}
-
-fn refuse_legacy(field: u64) -> EncodedLegacyHeader
-    ensures { λ r. ⌜ r ≡ refusedLegacy field ⌝ }
-{
-    EncodedLegacyHeader {
-        answer: Verdict::Refused(Refusal::field_too_large(field)),
-        bytes: [0; 16],
+    match header::judge_fields(
+        0x8000_0000,
+        0x8000_0000,
+        file_len,
+        elem_cnt,
+        first_phys,
+        last_phys,
+    ) {
+        Verdict::Refused(refusal) => EncodedLegacyHeader {
+            answer: Verdict::Refused(refusal),
+            bytes: [0; 16],
+        },
+        Verdict::Granted => EncodedLegacyHeader {
+            answer: Verdict::Granted,
+            bytes: legacy_bytes(
+                file_len as u32,
+                elem_cnt as u32,
+                first_phys as u32,
+                last_phys as u32,
+            ),
+        },
     }
 }
 
@@ -93,7 +85,7 @@ fn legacy_bytes(file_len: u32, elem_cnt: u32, first_phys: u32, last_phys: u32) -
     header
 }
 
-// What the first 16 bytes say, where they are a Legacy header.
+// What the first 16 bytes say, where they are a Legacy header: every field is an i32, and none is negative.
 pub fn parse_legacy_header(s: &[u8]) -> ParsedMetadata
     ensures { λ r. ⌜ r ≡ parseLegacy (now (s .entry)) ⌝ }
 {
@@ -104,7 +96,8 @@ pub fn parse_legacy_header(s: &[u8]) -> ParsedMetadata
     let elem_cnt = wire::get_u32(s, 4);
     let first_pos = wire::get_u32(s, 8);
     let last_pos = wire::get_u32(s, 12);
-    judge_legacy(
+    judge_metadata(
+        0x8000_0000,
         file_len as u64,
         elem_cnt as u64,
         first_pos as u64,
@@ -112,28 +105,25 @@ pub fn parse_legacy_header(s: &[u8]) -> ParsedMetadata
     )
 }
 
-// In a Legacy header every field is an i32, and none is negative.
-fn judge_legacy(file_len: u64, elem_cnt: u64, first_pos: u64, last_pos: u64) -> ParsedMetadata
-    ensures { λ r. ⌜ r ≡ judgeLegacy «file_len» «elem_cnt» «first_pos» «last_pos» ⌝ }
+// The fields, where each is below its limit; the count is an i32 in both headers.
+fn judge_metadata(
+    limit: u64,
+    file_len: u64,
+    elem_cnt: u64,
+    first_pos: u64,
+    last_pos: u64,
+) -> ParsedMetadata
+    ensures { λ r. ⌜ r ≡ judgeMetadata limit «file_len» «elem_cnt» «first_pos» «last_pos» ⌝ }
 {
-    if file_len >= 0x8000_0000 {
-        return ParsedMetadata::Refused(Refusal::field_too_large(1));
+    match header::judge_fields(limit, 0x8000_0000, file_len, elem_cnt, first_pos, last_pos) {
+        Verdict::Refused(refusal) => ParsedMetadata::Refused(refusal),
+        Verdict::Granted => ParsedMetadata::Metadata(QueueMetadata {
+            file_len: file_len,
+            elem_cnt: elem_cnt,
+            first_pos: first_pos,
+            last_pos: last_pos,
+        }),
     }
-    if elem_cnt >= 0x8000_0000 {
-        return ParsedMetadata::Refused(Refusal::field_too_large(2));
-    }
-    if first_pos >= 0x8000_0000 {
-        return ParsedMetadata::Refused(Refusal::field_too_large(3));
-    }
-    if last_pos >= 0x8000_0000 {
-        return ParsedMetadata::Refused(Refusal::field_too_large(4));
-    }
-    ParsedMetadata::Metadata(QueueMetadata {
-        file_len: file_len,
-        elem_cnt: elem_cnt,
-        first_pos: first_pos,
-        last_pos: last_pos,
-    })
 }
 
 pub fn encode_v1_header(
@@ -144,30 +134,22 @@ pub fn encode_v1_header(
 ) -> EncodedV1Header
     ensures { λ r. ⌜ r ≡ encodeV1 «file_len» «elem_cnt» «first_phys» «last_phys» ⌝ }
 {
-    if file_len >= 0x8000_0000_0000_0000 {
-        return refuse_v1(1);
-    }
-    if elem_cnt >= 0x8000_0000 {
-        return refuse_v1(2);
-    }
-    if first_phys >= 0x8000_0000_0000_0000 {
-        return refuse_v1(3);
-    }
-    if last_phys >= 0x8000_0000_0000_0000 {
-        return refuse_v1(4);
-    }
-    EncodedV1Header {
-        answer: Verdict::Granted,
-        bytes: v1_bytes(file_len, elem_cnt as u32, first_phys, last_phys),
-    }
-}
-
-fn refuse_v1(field: u64) -> EncodedV1Header
-    ensures { λ r. ⌜ r ≡ refusedV1 field ⌝ }
-{
-    EncodedV1Header {
-        answer: Verdict::Refused(Refusal::field_too_large(field)),
-        bytes: [0; 32],
+    match header::judge_fields(
+        0x8000_0000_0000_0000,
+        0x8000_0000,
+        file_len,
+        elem_cnt,
+        first_phys,
+        last_phys,
+    ) {
+        Verdict::Refused(refusal) => EncodedV1Header {
+            answer: Verdict::Refused(refusal),
+            bytes: [0; 32],
+        },
+        Verdict::Granted => EncodedV1Header {
+            answer: Verdict::Granted,
+            bytes: v1_bytes(file_len, elem_cnt as u32, first_phys, last_phys),
+        },
     }
 }
 
@@ -198,28 +180,11 @@ pub fn parse_versioned_header(s: &[u8]) -> ParsedMetadata
     let elem_cnt = wire::get_u32(s, 12);
     let first_pos = wire::get_u64(s, 16);
     let last_pos = wire::get_u64(s, 24);
-    judge_v1(file_len, elem_cnt as u64, first_pos, last_pos)
-}
-
-fn judge_v1(file_len: u64, elem_cnt: u64, first_pos: u64, last_pos: u64) -> ParsedMetadata
-    ensures { λ r. ⌜ r ≡ judgeV1 «file_len» «elem_cnt» «first_pos» «last_pos» ⌝ }
-{
-    if file_len >= 0x8000_0000_0000_0000 {
-        return ParsedMetadata::Refused(Refusal::field_too_large(1));
-    }
-    if elem_cnt >= 0x8000_0000 {
-        return ParsedMetadata::Refused(Refusal::field_too_large(2));
-    }
-    if first_pos >= 0x8000_0000_0000_0000 {
-        return ParsedMetadata::Refused(Refusal::field_too_large(3));
-    }
-    if last_pos >= 0x8000_0000_0000_0000 {
-        return ParsedMetadata::Refused(Refusal::field_too_large(4));
-    }
-    ParsedMetadata::Metadata(QueueMetadata {
-        file_len: file_len,
-        elem_cnt: elem_cnt,
-        first_pos: first_pos,
-        last_pos: last_pos,
-    })
+    judge_metadata(
+        0x8000_0000_0000_0000,
+        file_len,
+        elem_cnt as u64,
+        first_pos,
+        last_pos,
+    )
 }

@@ -4,6 +4,7 @@ ghost use Rattle.format.specs.Slots.{holds, electB, electBeside, electSl
 use header::HeaderSlot;
 use header::ParsedSlot;
 use header::SlotData;
+use header::V2_DATA_START;
 use refusal::Refusal;
 use refusal::Verdict;
 
@@ -76,7 +77,7 @@ fn hold(active_slot: HeaderSlot, slot: SlotData) -> Elected
 pub fn validate_v2_slot_data(slot: SlotData, real_file_len: u64) -> Verdict
     ensures { λ r. ⌜ r ≡ checkSlot slot «real_file_len» ⌝ }
 {
-    if slot.file_length < 8192 {
+    if slot.file_length < V2_DATA_START {
         return Verdict::Refused(Refusal::SLOT_LENGTH);
     }
     if slot.file_length > real_file_len {
@@ -114,13 +115,13 @@ fn check_pointers(first: u64, last: u64, file_length: u64) -> Verdict
     if last == 0 {
         return Verdict::Refused(Refusal::ZERO_POINTER);
     }
-    if first < 8192 {
+    if first < V2_DATA_START {
         return Verdict::Refused(Refusal::POINTER_BOUNDS);
     }
     if first >= file_length {
         return Verdict::Refused(Refusal::POINTER_BOUNDS);
     }
-    if last < 8192 {
+    if last < V2_DATA_START {
         return Verdict::Refused(Refusal::POINTER_BOUNDS);
     }
     if last >= file_length {

@@ -2,7 +2,9 @@
 ghost use mathlib.Core.Path.{_≡_};
 ghost use Prim.Native.Nat.{_≤_};
 ghost use Rattle.format.specs.FormatState.{dataStart, elemHdrLen, overhead, elemSpan, spanRefusal, nextSeq, withNextSeq};
+use crate::element::V2_ELEM_OVERHEAD;
 use header::HeaderSlot;
+use header::V2_DATA_START;
 use refusal::Refusal;
 
 // The state of a V2 file's header: the slot that holds, its generation, and the sequence that the next element gets.
@@ -43,7 +45,7 @@ impl FormatState {
         match self {
             FormatState::Legacy => 16,
             FormatState::V1 => 32,
-            FormatState::V2(_) => 8192,
+            FormatState::V2(_) => V2_DATA_START,
         }
     }
 
@@ -75,7 +77,7 @@ impl FormatState {
         match self {
             FormatState::Legacy => 4,
             FormatState::V1 => 4,
-            FormatState::V2(_) => 44,
+            FormatState::V2(_) => V2_ELEM_OVERHEAD,
         }
     }
 

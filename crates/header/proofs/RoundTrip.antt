@@ -1,23 +1,24 @@
 -- A slot both ways: what is encoded within the limits parses to what was encoded, and what parses is within the limits and
 -- was encoded so. Assumes nothing.
 use mathlib.Core.Path.{_≡_, refl, sym, ap, subst, _∙_}
-use mathlib.Core.List.{List, [], _∷_, _++_}
-use Prim.Native.Nat.{ℕ, _+_, _^_, _≤_, _<_}
+use mathlib.Core.List.{List, [], _∷_}
+use Prim.Native.Nat.{ℕ, _^_, _≤_}
 use native.Mathlib.Omega.{arith}
-use borrow.Author.Tests.{le-leb, lt-ltb, eq-eqb, leb-true, ltb-true, eqb-true}
-use lib.ListN.{length, take, replicate}
+use borrow.Author.Tests.{lt-ltb, eq-eqb, leb-true, ltb-true, eqb-true}
+use lib.ListN.{length, take}
 use lib.Seq.{take-add}
 use Rattle.refusal.specs.declared.Refusal.{Refusal}
-use Rattle.refusal.specs.declared.Verdict.the-variants.{Granted}
-use Rattle.refusal.proofs.Laws.{met, granted, keep}
-use Rattle.wire.specs.Wire.{Bytes, be, word, bytesAt}
+use Rattle.refusal.specs.declared.Verdict as Answer
+use Rattle.refusal.specs.declared.Verdict.the-variants as Verdict
+use Rattle.refusal.proofs.Laws.{met, granted}
+use Rattle.wire.specs.Wire.{Bytes, be, word}
 use Rattle.wire.proofs.Numbers.{bytes-layout, append-both, beVal-be, be-word, bytesAt-part, startsWith-take}
 use Rattle.crc.specs.Crc.{crcOf}
 use Rattle.crc.proofs.Limits.{crcOf-lt}
-use Rattle.header.specs.Slot.{Fits, slotStart, slotFields, slotBytes, slotData, encodeSlot, slotAt, parseSlot}
+use Rattle.header.specs.Slot.{Fits, Below, slotStart, slotFields, slotBytes, slotData, judgeFields, encodedSlot, encodeSlot, slotAt, parseSlot}
 use Rattle.header.specs.declared.SlotData.{SlotData}
-use Rattle.header.specs.declared.EncodedSlot.{EncodedSlot}
 use Rattle.header.specs.declared.ParsedSlot.the-variants.{Slot, Refused}
+use Rattle.header.proofs.Fields.{below-granted}
 
 -- ---- the bytes
 
@@ -38,27 +39,30 @@ bytes-slotBytes d =
     ∷ [])
 
 -- an encoder that refuses gives as many zeros
-pub length-encoded : (fileLen count first last generation nextSeq : ℕ) → length (encodeSlot fileLen count first last generation nextSeq .bytes) ≡ 56
-length-encoded fileLen count first last generation nextSeq =
-    let Q : EncodedSlot → Type 0 = λ r. length (r .bytes) ≡ 56 in
-    keep Q _ _ _ refl (λ _. keep Q _ _ _ refl (λ _. keep Q _ _ _ refl (λ _. keep Q _ _ _ refl (λ _. refl))))
+length-given : (v : Answer.Verdict) (d : SlotData) → length (encodedSlot v (slotBytes d) .bytes) ≡ 56
+length-given Verdict.Granted d = refl
+length-given (Verdict.Refused r) d = refl
 
-pub bytes-encoded : (fileLen count first last generation nextSeq : ℕ) → Bytes (encodeSlot fileLen count first last generation nextSeq .bytes)
-bytes-encoded fileLen count first last generation nextSeq =
-    let Q : EncodedSlot → Type 0 = λ r. Bytes (r .bytes) in
-    let none : Bytes (replicate 56 0) = bytes-layout ((56, 0) ∷ []) in
-    keep Q _ _ _ none (λ _. keep Q _ _ _ none (λ _. keep Q _ _ _ none (λ _. keep Q _ _ _ none (λ _. bytes-slotBytes _))))
+bytes-given : (v : Answer.Verdict) (d : SlotData) → Bytes (encodedSlot v (slotBytes d) .bytes)
+bytes-given Verdict.Granted d = bytes-slotBytes d
+bytes-given (Verdict.Refused r) d = bytes-layout ((56, 0) ∷ [])
 
--- within its own limits the encoder gives the bytes
-pub encode-granted : (fileLen count first last generation nextSeq : ℕ) → fileLen < 2 ^ 63 → count < 2 ^ 32 → first < 2 ^ 63 → last < 2 ^ 63 →
-    encodeSlot fileLen count first last generation nextSeq
-    ≡ record { answer = Granted; bytes = slotBytes (slotData fileLen count first last generation nextSeq) }
-encode-granted fileLen count first last generation nextSeq hn hc hf hl =
-    sym
-    (met _ _ _ (lt-ltb fileLen (2 ^ 63) hn)
-    (met _ _ _ (lt-ltb count (2 ^ 32) hc)
-    (met _ _ _ (lt-ltb first (2 ^ 63) hf)
-    (met _ _ _ (lt-ltb last (2 ^ 63) hl) refl))))
+module _ (fileLen count first last generation nextSeq : ℕ) where
+  pub length-encoded : length (encodeSlot fileLen count first last generation nextSeq .bytes) ≡ 56
+  length-encoded =
+      length-given (judgeFields (2 ^ 63) (2 ^ 32) fileLen count first last) (slotData fileLen count first last generation nextSeq)
+
+  pub bytes-encoded : Bytes (encodeSlot fileLen count first last generation nextSeq .bytes)
+  bytes-encoded =
+      bytes-given (judgeFields (2 ^ 63) (2 ^ 32) fileLen count first last) (slotData fileLen count first last generation nextSeq)
+
+  -- within its own limits the encoder gives the bytes
+  pub encode-granted : Below (2 ^ 63) (2 ^ 32) fileLen count first last →
+      encodeSlot fileLen count first last generation nextSeq
+      ≡ record { answer = Verdict.Granted; bytes = slotBytes (slotData fileLen count first last generation nextSeq) }
+  encode-granted b =
+      ap (λ (v : Answer.Verdict). encodedSlot v (slotBytes (slotData fileLen count first last generation nextSeq)))
+      (below-granted (2 ^ 63) (2 ^ 32) fileLen count first last b)
 
 -- ---- parse after encode
 

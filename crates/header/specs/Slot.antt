@@ -7,6 +7,7 @@ use lib.Dec.{ltb, leb, eqb}
 use Rattle.refusal.specs.Table.{none, short, notASlot, fieldTooLarge}
 use Rattle.refusal.specs.Demand.{demand}
 use Rattle.refusal.specs.declared.Refusal.{Refusal}
+use Rattle.refusal.specs.declared.Verdict as Answer
 use Rattle.refusal.specs.declared.Verdict.the-variants as Verdict
 use Rattle.wire.specs.Wire.{be, word, startsWith}
 use Rattle.crc.specs.Crc.{crcOf}
@@ -62,18 +63,24 @@ slotFields d =
 abbrev pub slotBytes : SlotData → List ℕ
 slotBytes d = slotFields d ++ be 4 (crcOf (slotFields d))
 
--- no bytes, since a field is too large
-abbrev pub refusedField : ℕ → EncodedSlot
-refusedField field = record { answer = Verdict.Refused (fieldTooLarge field); bytes = replicate 56 0 }
+-- the fields that every file header has, in their order: the first that is not below its limit is refused
+abbrev pub judgeFields : ℕ → ℕ → ℕ → ℕ → ℕ → ℕ → Answer.Verdict
+judgeFields limit countLimit fileLen count first last =
+    demand (ltb fileLen limit) (Verdict.Refused (fieldTooLarge 1))
+    (demand (ltb count countLimit) (Verdict.Refused (fieldTooLarge 2))
+    (demand (ltb first limit) (Verdict.Refused (fieldTooLarge 3))
+    (demand (ltb last limit) (Verdict.Refused (fieldTooLarge 4))
+    Verdict.Granted)))
 
--- what encoding answers: the first field that is too large, or the bytes
+-- the bytes, or as many zeros where they are refused
+abbrev pub encodedSlot : Answer.Verdict → List ℕ → EncodedSlot
+encodedSlot Verdict.Granted bytes = record { answer = Verdict.Granted; bytes = bytes }
+encodedSlot (Verdict.Refused r) bytes = record { answer = Verdict.Refused r; bytes = replicate 56 0 }
+
+-- what encoding answers; neither the generation nor the next sequence is judged
 abbrev pub encodeSlot : ℕ → ℕ → ℕ → ℕ → ℕ → ℕ → EncodedSlot
 encodeSlot fileLen count first last generation nextSeq =
-    demand (ltb fileLen (2 ^ 63)) (refusedField 1)
-    (demand (ltb count (2 ^ 32)) (refusedField 2)
-    (demand (ltb first (2 ^ 63)) (refusedField 3)
-    (demand (ltb last (2 ^ 63)) (refusedField 4)
-    (record { answer = Verdict.Granted; bytes = slotBytes (slotData fileLen count first last generation nextSeq) }))))
+    encodedSlot (judgeFields (2 ^ 63) (2 ^ 32) fileLen count first last) (slotBytes (slotData fileLen count first last generation nextSeq))
 
 -- ---- what its bytes say
 
@@ -115,3 +122,10 @@ pub record Fits (d : SlotData) : Type 0 where
   pub last : d .«last_position» < 2 ^ 63
   pub generation : d .generation < 2 ^ 63
   pub sequence : d .«next_sequence_number» < 2 ^ 63
+
+-- the limits within which a file header's fields are granted
+pub record Below (limit countLimit fileLen elements from to : ℕ) : Type 0 where
+  pub length : fileLen < limit
+  pub count : elements < countLimit
+  pub first : from < limit
+  pub last : to < limit

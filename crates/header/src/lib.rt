@@ -1,9 +1,12 @@
 // The header slots of a V2 file: which of the two is active, what a slot holds, and its 56 bytes both ways.
 // The bytes are laid out in specs/Slot.antt, as docs/FORMAT.md has them.
 ghost use mathlib.Core.Path.{_≡_};
-ghost use Rattle.header.specs.Slot.{otherSlot, slotOffset, slotBytes, refusedField, encodeSlot, slotAt, judgeSlot, parseSlot, parsedSlotRefusal};
+ghost use Rattle.header.specs.Slot.{otherSlot, slotOffset, slotBytes, judgeFields, encodeSlot, slotAt, judgeSlot, parseSlot, parsedSlotRefusal};
 use refusal::Refusal;
 use refusal::Verdict;
+
+// Where the ring of elements starts in the file.
+pub const V2_DATA_START: u64 = 8192;
 
 pub enum HeaderSlot {
     A,
@@ -95,40 +98,57 @@ pub fn encode_v2_slot(
 ) -> EncodedSlot
     ensures { λ r. ⌜ r ≡ encodeSlot «file_len» «elem_cnt» «first_phys» «last_phys» generation «next_seq» ⌝ }
 {
-    if file_len >= 0x8000_0000_0000_0000 {
-        return refuse_field(1);
-    }
-    if elem_cnt >= 0x1_0000_0000 {
-        return refuse_field(2);
-    }
-    if first_phys >= 0x8000_0000_0000_0000 {
-        return refuse_field(3);
-    }
-    if last_phys >= 0x8000_0000_0000_0000 {
-        return refuse_field(4);
-    }
-    let bytes = build_slot_bytes(SlotData {
-        file_length: file_len,
-        element_count: elem_cnt as u32,
-        first_position: first_phys,
-        last_position: last_phys,
-        generation: generation,
-        next_sequence_number: next_seq,
-    });
-    EncodedSlot {
-        answer: Verdict::Granted,
-        bytes: bytes,
+    match judge_fields(
+        0x8000_0000_0000_0000,
+        0x1_0000_0000,
+        file_len,
+        elem_cnt,
+        first_phys,
+        last_phys,
+    ) {
+        Verdict::Refused(refusal) => EncodedSlot {
+            answer: Verdict::Refused(refusal),
+            bytes: [0; 56],
+        },
+        Verdict::Granted => EncodedSlot {
+            answer: Verdict::Granted,
+            bytes: build_slot_bytes(SlotData {
+                file_length: file_len,
+                element_count: elem_cnt as u32,
+                first_position: first_phys,
+                last_position: last_phys,
+                generation: generation,
+                next_sequence_number: next_seq,
+            }),
+        },
     }
 }
 
-// A slot of none, for a field that is too large.
-fn refuse_field(field: u64) -> EncodedSlot
-    ensures { λ r. ⌜ r ≡ refusedField field ⌝ }
+// Whether the fields that every file header has are below their limits: the file length and the two positions below one, the
+// count below another. The first that is not gives the refusal.
+pub fn judge_fields(
+    limit: u64,
+    count_limit: u64,
+    file_len: u64,
+    elem_cnt: u64,
+    first_phys: u64,
+    last_phys: u64,
+) -> Verdict
+    ensures { λ r. ⌜ r ≡ judgeFields limit «count_limit» «file_len» «elem_cnt» «first_phys» «last_phys» ⌝ }
 {
-    EncodedSlot {
-        answer: Verdict::Refused(Refusal::field_too_large(field)),
-        bytes: [0; 56],
+    if file_len >= limit {
+        return Verdict::Refused(Refusal::field_too_large(1));
     }
+    if elem_cnt >= count_limit {
+        return Verdict::Refused(Refusal::field_too_large(2));
+    }
+    if first_phys >= limit {
+        return Verdict::Refused(Refusal::field_too_large(3));
+    }
+    if last_phys >= limit {
+        return Verdict::Refused(Refusal::field_too_large(4));
+    }
+    Verdict::Granted
 }
 
 // What the first 56 bytes hold, where they are a slot.

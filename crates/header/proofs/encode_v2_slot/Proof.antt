@@ -1,55 +1,48 @@
--- `header::encode_v2_slot` meets its contract: at each answer the tests that led there.
+-- `header::encode_v2_slot` meets its contract, by what `judge_fields` ensures.
 -- Assumes nothing.
-use Rattle.refusal.proofs.Laws.{decide}
+use mathlib.Core.Path.{sym, _∙_}
+use native.Mathlib.Omega.{arith}
+use Prim.Native.Nat.{_^_}
+use Rattle.header.proofs.Fields.{granted-below}
 use borrow.Author.Needs.{needs}
 use Rattle.header.proofs.encode_v2_slot.Statement.{statement}
 use Rattle.header.proofs.encode_v2_slot.Tie as tie
 
-refuse-field-requires : tie.Need-refuse-field-requires
-refuse-field-requires c κs = search needs
+judge-fields-requires : tie.Need-judge-fields-requires
+judge-fields-requires c κs = search needs
 
-returns : tie.Need-returns
-returns c = search decide
+enum-known-refusal : tie.Need-enum-known-refusal
+enum-known-refusal c = search needs
 
-refuse-field-requires-2 : tie.Need-refuse-field-requires-2
-refuse-field-requires-2 c κs = search needs
+enum-told : tie.Need-enum-told
+enum-told c = search needs
 
-returns-2 : tie.Need-returns-2
-returns-2 c = search decide
-
-refuse-field-requires-3 : tie.Need-refuse-field-requires-3
-refuse-field-requires-3 c κs = search needs
-
-returns-3 : tie.Need-returns-3
-returns-3 c = search decide
-
-refuse-field-requires-4 : tie.Need-refuse-field-requires-4
-refuse-field-requires-4 c κs = search needs
-
-returns-4 : tie.Need-returns-4
-returns-4 c = search decide
-
-cast-t9 : tie.Need-cast-t9
-cast-t9 c = search needs
+cast-t14 : tie.Need-cast-t14
+cast-t14 c =
+    let judged = c .before .before in
+    let a = judged .before .args in
+    let below = granted-below (2 ^ 63) (2 ^ 32) (a .file-len) (a .elem-cnt) (a .first-phys) (a .last-phys) (sym (judged .judge-fields .ensures) ∙ c .enum-told .given .1) in
+    omega (arith, below .count)
 
 build-slot-bytes-requires : tie.Need-build-slot-bytes-requires
 build-slot-bytes-requires c κs = search needs
 
-returns-5 : tie.Need-returns-5
-returns-5 c = rw (c .build-slot-bytes .ensures) (search decide)
+returns : tie.Need-returns
+returns c = rw (sym (c .before .before .before .judge-fields .ensures) ∙ c .before .refusal .given .1)
+
+returns-2 : tie.Need-returns-2
+returns-2 c =
+    let judged = c .before .before .before in
+    rw (sym (judged .judge-fields .ensures) ∙ c .before .enum-told .given .1, c .build-slot-bytes .ensures)
 
 pub encode-v2-slot-spec : {M : Type 1} → statement M
 encode-v2-slot-spec =
     tie.close
     (tie.spec
-    refuse-field-requires
-    returns
-    refuse-field-requires-2
-    returns-2
-    refuse-field-requires-3
-    returns-3
-    refuse-field-requires-4
-    returns-4
-    cast-t9
+    judge-fields-requires
+    enum-known-refusal
+    enum-told
+    cast-t14
     build-slot-bytes-requires
-    returns-5)
+    returns
+    returns-2)

@@ -1,55 +1,53 @@
--- `format::file_header::encode_v1_header` meets its contract: at each answer the tests that led there.
+-- `format::file_header::encode_v1_header` meets its contract, by what `judge_fields` ensures.
 -- Assumes nothing.
-use Rattle.refusal.proofs.Laws.{decide}
+use mathlib.Core.Path.{sym, _∙_}
+use Prim.Native.Nat.{_^_}
+use native.Mathlib.Omega.{arith}
+use Rattle.header.specs.Slot.{Below}
+use Rattle.header.proofs.Fields.{granted-below}
 use borrow.Author.Needs.{needs}
 use Rattle.format.proofs.file_header.encode_v1_header.Statement.{statement}
 use Rattle.format.proofs.file_header.encode_v1_header.Tie as tie
 
-refuse-v1-requires : tie.Need-refuse-v1-requires
-refuse-v1-requires c κs = search needs
+-- where the fields are granted they are below their limits
+below : (c : tie.After-enum-told) →
+    let a = c .before .before .before .args in Below (2 ^ 63) (2 ^ 31) (a .file-len) (a .elem-cnt) (a .first-phys) (a .last-phys)
+below c =
+    let judged = c .before .before in
+    let a = judged .before .args in
+    granted-below (2 ^ 63) (2 ^ 31) (a .file-len) (a .elem-cnt) (a .first-phys) (a .last-phys) (sym (judged .judge-fields .ensures) ∙ c .enum-told .given .1)
 
-returns : tie.Need-returns
-returns c = search decide
+judge-fields-requires : tie.Need-judge-fields-requires
+judge-fields-requires c κs = search needs
 
-refuse-v1-requires-2 : tie.Need-refuse-v1-requires-2
-refuse-v1-requires-2 c κs = search needs
+enum-known-refusal : tie.Need-enum-known-refusal
+enum-known-refusal c = search needs
 
-returns-2 : tie.Need-returns-2
-returns-2 c = search decide
-
-refuse-v1-requires-3 : tie.Need-refuse-v1-requires-3
-refuse-v1-requires-3 c κs = search needs
-
-returns-3 : tie.Need-returns-3
-returns-3 c = search decide
-
-refuse-v1-requires-4 : tie.Need-refuse-v1-requires-4
-refuse-v1-requires-4 c κs = search needs
-
-returns-4 : tie.Need-returns-4
-returns-4 c = search decide
+enum-told : tie.Need-enum-told
+enum-told c = search needs
 
 cast-v1-bytes : tie.Need-cast-v1-bytes
-cast-v1-bytes c = search needs
+cast-v1-bytes c = omega (arith, below c .count)
 
 v1-bytes-requires : tie.Need-v1-bytes-requires
 v1-bytes-requires c κs = search needs
 
-returns-5 : tie.Need-returns-5
-returns-5 c = rw (c .v1-bytes .ensures) (search decide)
+returns : tie.Need-returns
+returns c = rw (sym (c .before .before .before .judge-fields .ensures) ∙ c .before .refusal .given .1)
+
+returns-2 : tie.Need-returns-2
+returns-2 c =
+    let judged = c .before .before .before in
+    rw (sym (judged .judge-fields .ensures) ∙ c .before .enum-told .given .1, c .v1-bytes .ensures)
 
 pub encode-v1-header-spec : {M : Type 1} → statement M
 encode-v1-header-spec =
     tie.close
     (tie.spec
-    refuse-v1-requires
-    returns
-    refuse-v1-requires-2
-    returns-2
-    refuse-v1-requires-3
-    returns-3
-    refuse-v1-requires-4
-    returns-4
+    judge-fields-requires
+    enum-known-refusal
+    enum-told
     cast-v1-bytes
     v1-bytes-requires
-    returns-5)
+    returns
+    returns-2)

@@ -20,20 +20,20 @@ get-u32-requires-3 c κs = search needs
 get-u32-requires-4 : tie.Need-get-u32-requires-4
 get-u32-requires-4 c κs = search needs
 
-cast-judge-legacy : tie.Need-cast-judge-legacy
-cast-judge-legacy c = search needs
+cast-judge-metadata : tie.Need-cast-judge-metadata
+cast-judge-metadata c = search needs
 
-cast-judge-legacy-2 : tie.Need-cast-judge-legacy-2
-cast-judge-legacy-2 c = search needs
+cast-judge-metadata-2 : tie.Need-cast-judge-metadata-2
+cast-judge-metadata-2 c = search needs
 
-cast-judge-legacy-3 : tie.Need-cast-judge-legacy-3
-cast-judge-legacy-3 c = search needs
+cast-judge-metadata-3 : tie.Need-cast-judge-metadata-3
+cast-judge-metadata-3 c = search needs
 
-cast-judge-legacy-4 : tie.Need-cast-judge-legacy-4
-cast-judge-legacy-4 c = search needs
+cast-judge-metadata-4 : tie.Need-cast-judge-metadata-4
+cast-judge-metadata-4 c = search needs
 
-judge-legacy-requires : tie.Need-judge-legacy-requires
-judge-legacy-requires c κs = search needs
+judge-metadata-requires : tie.Need-judge-metadata-requires
+judge-metadata-requires c κs = search needs
 
 returns-2 : tie.Need-returns-2
 returns-2 c =
@@ -41,7 +41,7 @@ returns-2 c =
     let p2 = p3 .before in
     let p1 = p2 .before in
     let p0 = p1 .before in
-    let j = rw (p0 .get-u32 .ensures, p1 .get-u322 .ensures, p2 .get-u323 .ensures, p3 .get-u324 .ensures) at (c .judge-legacy .ensures) in
+    let j = rw (p0 .get-u32 .ensures, p1 .get-u322 .ensures, p2 .get-u323 .ensures, p3 .get-u324 .ensures) at (c .judge-metadata .ensures) in
     search decide
 
 pub parse-legacy-header-spec : {M : Type 1} → statement M
@@ -53,9 +53,9 @@ parse-legacy-header-spec =
     get-u32-requires-2
     get-u32-requires-3
     get-u32-requires-4
-    cast-judge-legacy
-    cast-judge-legacy-2
-    cast-judge-legacy-3
-    cast-judge-legacy-4
-    judge-legacy-requires
+    cast-judge-metadata
+    cast-judge-metadata-2
+    cast-judge-metadata-3
+    cast-judge-metadata-4
+    judge-metadata-requires
     returns-2)

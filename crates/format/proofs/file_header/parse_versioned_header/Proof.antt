@@ -36,11 +36,11 @@ get-u64-requires-2 c κs = search needs
 get-u64-requires-3 : tie.Need-get-u64-requires-3
 get-u64-requires-3 c κs = search needs
 
-cast-judge-v1 : tie.Need-cast-judge-v1
-cast-judge-v1 c = search needs
+cast-judge-metadata : tie.Need-cast-judge-metadata
+cast-judge-metadata c = search needs
 
-judge-v1-requires : tie.Need-judge-v1-requires
-judge-v1-requires c κs = search needs
+judge-metadata-requires : tie.Need-judge-metadata-requires
+judge-metadata-requires c κs = search needs
 
 returns-3 : tie.Need-returns-3
 returns-3 c =
@@ -49,7 +49,7 @@ returns-3 c =
     let count = first .before in
     let len = count .before in
     let t = rw (len .before .before .get-u32 .ensures) at (len .before .if2 .left) in
-    let j = rw (len .get-u64 .ensures, count .get-u322 .ensures, first .get-u642 .ensures, last .get-u643 .ensures) at (c .judge-v1 .ensures) in
+    let j = rw (len .get-u64 .ensures, count .get-u322 .ensures, first .get-u642 .ensures, last .get-u643 .ensures) at (c .judge-metadata .ensures) in
     search decide
 
 pub parse-versioned-header-spec : {M : Type 1} → statement M
@@ -65,6 +65,6 @@ parse-versioned-header-spec =
     get-u32-requires-2
     get-u64-requires-2
     get-u64-requires-3
-    cast-judge-v1
-    judge-v1-requires
+    cast-judge-metadata
+    judge-metadata-requires
     returns-3)

@@ -1,9 +1,9 @@
--- `format::file_header::judge_v1` meets its contract: at each answer the tests that led there.
+-- `header::judge_fields` meets its contract: at each answer the tests that led there.
 -- Assumes nothing.
 use Rattle.refusal.proofs.Laws.{decide}
 use borrow.Author.Needs.{needs}
-use Rattle.format.proofs.file_header.judge_v1.Statement.{statement}
-use Rattle.format.proofs.file_header.judge_v1.Tie as tie
+use Rattle.header.proofs.judge_fields.Statement.{statement}
+use Rattle.header.proofs.judge_fields.Tie as tie
 
 field-too-large-requires : tie.Need-field-too-large-requires
 field-too-large-requires c κs = search needs
@@ -32,8 +32,8 @@ returns-4 c = search decide
 returns-5 : tie.Need-returns-5
 returns-5 c = search decide
 
-pub judge-v1-spec : {M : Type 1} → statement M
-judge-v1-spec =
+pub judge-fields-spec : {M : Type 1} → statement M
+judge-fields-spec =
     tie.close
     (tie.spec
     field-too-large-requires
