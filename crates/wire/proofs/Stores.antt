@@ -1,12 +1,13 @@
 -- The laws of stores: what is stored is what is read back, and all else stays. Assumes nothing.
-use mathlib.Core.Path.{_≡_, refl, ap, _∙_}
-use mathlib.Core.List.{List, [], _∷_, _++_, append-nil}
+use mathlib.Core.Path.{_≡_, refl, sym, ap, _∙_}
+use mathlib.Core.Logic.{_⊎_, inl, inr}
+use mathlib.Core.List.{List, [], _∷_, _++_, append-assoc, append-nil}
 use Prim.Native.Nat.{ℕ, zero, suc, _+_, _-_, _^_, _≤_, _<_}
 use native.Mathlib.Nat.{add-zero, zero-add, suc-add, add-suc}
 use native.Mathlib.Numerals.{add-one}
 use native.Mathlib.Omega.{arith}
-use lib.ListN.{length, getD, take, drop, set, length-set, length-drop, length-append, take-append-drop, drop-of-length-le}
-use lib.Seq.{sets-eq, set-out, getD-set-same, getD-set-other, take-all, take-set-le, drop-set-add, take-append-seam, drop-append-seam, drop-append-add}
+use lib.ListN.{length, getD, take, drop, set, length-set, length-drop, length-append, take-append-drop, drop-of-length-le, replicate, length-replicate, replicate-append-replicate}
+use lib.Seq.{sets-eq, length-sets, drop-drop, length-take-le, set-out, getD-set-same, getD-set-other, take-all, take-set-le, drop-set-add, take-append-seam, drop-append-seam, drop-append-add}
 use borrow.Rule.Slice.PartMut.{midOf, postOf, putMid}
 use Rattle.wire.specs.Wire.{Bytes, be, bytesAt, word, beVal, putAt}
 use Rattle.wire.proofs.Numbers.{length-be, beVal-be}
@@ -103,3 +104,30 @@ putAt-lent out at src =
     let all : midOf at (length out - at) out ≡ drop at out = take-all (length out - at) (drop at out) (rw length-drop (omega arith)) in
     let none : postOf at (length out - at) out ≡ [] = drop-of-length-le (drop at out) {i = length out - at} (rw length-drop (omega arith)) in
     rw (all, none) (ap (λ (l : List ℕ). take at out ++ l) (append-nil (putAt (drop at out) 0 src)) ∙ putAt-part out at 0 src ∙ rw add-zero)
+
+-- bytes that take the place of as many others are a store in the whole
+pub putAt-mid : (out : List ℕ) (at : ℕ) (src : List ℕ) → at + length src ≤ length out → putMid at (length src) out src ≡ putAt out at src
+putAt-mid out at src h =
+    ap (λ (l : List ℕ). take at out ++ (src ++ l)) (drop-drop (length src) at out)
+    ∙ sym (sets-eq src out at h ∙ append-assoc (take at out) src (drop (at + length src) out))
+
+-- n bytes of one value are stored by storing k of them, where the others would go nowhere
+pub putAt-enough : (out : List ℕ) (at k n v : ℕ) → k ≤ n → (n ≤ k) ⊎ (length out - at ≤ k) → putAt out at (replicate k v) ≡ putAt out at (replicate n v)
+putAt-enough out at k n v h (inl e) = let same : k ≡ n = omega arith in rw same
+putAt-enough out at k n v h (inr e) =
+    let part : List ℕ = putAt out at (replicate k v) in
+    let size : length part ≡ length out = length-sets out at (replicate k v) in
+    let count : length (replicate k v) ≡ k = length-replicate k v in
+    let all : k + (n - k) ≡ n = omega arith in
+    sym
+    (ap (λ (l : List ℕ). putAt out at l) (sym (rw all at (replicate-append-replicate k (n - k) v)))
+    ∙ putAt-append out at (replicate k v) (replicate (n - k) v)
+    ∙ putAt-out part (at + length (replicate k v)) (replicate (n - k) v) (omega arith))
+
+-- what a part of k bytes that is lent comes back with, once it is filled, is a store of n in the whole, where k are enough
+pub putAt-filled : (out : List ℕ) (at k n v : ℕ) → at + k ≤ length out → k ≤ n → (n ≤ k) ⊎ (length out - at ≤ k) →
+    putMid at k out (replicate (length (midOf at k out)) v) ≡ putAt out at (replicate n v)
+putAt-filled out at k n v w h e =
+    let size : length (midOf at k out) ≡ k = length-take-le k (drop at out) (rw length-drop (omega arith)) in
+    let count : length (replicate k v) ≡ k = length-replicate k v in
+    rw size (rw count at (putAt-mid out at (replicate k v) (omega arith)) ∙ putAt-enough out at k n v h e)

@@ -219,3 +219,13 @@ pub fn fill(out: &mut [u8], value: u8)
         i += 1;
     }
 }
+
+// Stores n bytes of one value in out from `at` on, as far as out goes.
+pub fn fill_at(out: &mut [u8], at: usize, n: usize, value: u8)
+    ensures { λ _. ⌜ now (out .exit) ≡ putAt (now (out .entry)) at (replicate n value) ⌝ }
+{
+    if at < out.len() {
+        let end = at + smaller(n, out.len() - at);
+        fill(&mut out[at..end], value);
+    }
+}
