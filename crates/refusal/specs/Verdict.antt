@@ -8,3 +8,8 @@ use Rattle.refusal.specs.declared.Verdict.the-variants.{Granted, Refused
 abbrev pub verdictRefusal : Verdict → Refusal
 verdictRefusal Granted = none
 verdictRefusal (Refused r) = r
+
+-- what is there after it: what was asked where it is granted, and what was there where it is refused
+abbrev pub after : {A : Type 0} → Verdict → A → A → A
+after Granted new old = new
+after (Refused r) new old = old

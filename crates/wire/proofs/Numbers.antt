@@ -110,6 +110,14 @@ bytesAt-cons w s at i b bs p q =
     let e : at + suc i ≡ at + i + 1 = omega arith in
     rw (p, q, e)
 
+-- byte i of the w bytes at `at`
+pub getD-bytesAt : (w : ℕ) (s : List ℕ) (at i : ℕ) → i < w → getD (bytesAt w s at) i 0 ≡ getD s (at + i) 0
+getD-bytesAt zero s at i h = absurd (omega arith)
+getD-bytesAt (suc w) s at zero h = rw add-zero
+getD-bytesAt (suc w) s at (suc i) h =
+    let e : at + 1 + i ≡ at + suc i = omega arith in
+    getD-bytesAt w s (at + 1) i (omega arith) ∙ rw e
+
 -- within the list, the w bytes at `at` are a part of it
 pub bytesAt-part : (w : ℕ) (s : List ℕ) (at : ℕ) → at + w ≤ length s → bytesAt w s at ≡ take w (drop at s)
 bytesAt-part zero s at h = refl

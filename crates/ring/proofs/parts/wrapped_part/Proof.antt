@@ -1,0 +1,69 @@
+-- `ring::parts::wrapped_part` meets its contract: the parts that are granted lie in the image. Assumes nothing.
+use mathlib.Core.Path.{_≡_, sym, _∙_}
+use Prim.Native.Nat.{_+_, _-_}
+use native.Mathlib.Omega.{arith}
+use borrow.Author.Needs.{needs}
+use Rattle.ring.proofs.Segments.{split-within}
+use Rattle.ring.proofs.parts.wrapped_part.Statement.{statement}
+use Rattle.ring.proofs.parts.wrapped_part.Tie as tie
+
+split-requires : tie.Need-split-requires
+split-requires c κs = search needs
+
+enum-known-p : tie.Need-enum-known-p
+enum-known-p c = search needs
+
+enum-told : tie.Need-enum-told
+enum-told c = search needs
+
+sub-result : tie.Need-sub-result
+sub-result c = search needs
+
+part-result-start : tie.Need-part-result-start
+part-result-start c = search needs
+
+part-result-end : tie.Need-part-result-end
+part-result-end c = search needs
+
+returns : tie.Need-returns
+returns c = rw (sym (c .before .before .before .split .ensures) ∙ c .before .enum-told .given .1)
+
+add-result : tie.Need-add-result
+add-result c =
+    let l = split-within _ _ _ _ _ _ (sym (c .before .before .before .before .split .ensures) ∙ c .before .before .p .given .1) in
+    search needs
+
+sub-result-2 : tie.Need-sub-result-2
+sub-result-2 c = search needs
+
+part-result-start-2 : tie.Need-part-result-start-2
+part-result-start-2 c = search needs
+
+part-result-end-2 : tie.Need-part-result-end-2
+part-result-end-2 c =
+    let l = split-within _ _ _ _ _ _ (sym (c .before .before .before .before .split .ensures) ∙ c .before .before .p .given .1) in
+    search needs
+
+returns-2 : tie.Need-returns-2
+returns-2 c =
+    let found = c .before .before .before in
+    let x = found .p .given .0 .0 in
+    let cut : 8192 + x .«wrapped_len» - 8192 ≡ x .«wrapped_len» = omega arith in
+    rw (cut, sym (found .before .before .split .ensures) ∙ found .p .given .1)
+
+pub wrapped-part-spec : {M : Type 1} → statement M
+wrapped-part-spec =
+    tie.close
+    (tie.spec
+    split-requires
+    enum-known-p
+    enum-told
+    sub-result
+    part-result-start
+    part-result-end
+    returns
+    add-result
+    sub-result-2
+    part-result-start-2
+    part-result-end-2
+    returns-2)
