@@ -97,9 +97,9 @@ split-joins start img file p n parts e =
     let same : partsOf start (file - start) p n ≡ parts = cc in
     rw (← same) (sym (read-parts start (file - start) img p n (omega arith) (omega arith) fits))
 
--- the turn of a loop that has filled the first `done` of n bytes, and fills k more
+-- the turn of a loop that has filled the first `done` of n bytes, and fills k more with a part `image[from..from + k]`
 pub read-turn : (start size : ℕ) (img : List ℕ) (at : ℕ) (out : List ℕ) (done n k : ℕ) → start + size ≤ length img → done < n → Segment size at (n - done) k
-    → putAt (putAt out done (take k (drop (start + at) img))) (done + k) (ringRead start size img 0 (n - (done + k)))
+    → putAt (putAt out done (take (start + at + k - (start + at)) (drop (start + at) img))) (done + k) (ringRead start size img 0 (n - (done + k)))
     ≡ putAt out done (ringRead start size img at (n - done))
 read-turn start size img at out done n k f h g =
     let part : List ℕ = take k (drop (start + at) img) in
@@ -108,10 +108,12 @@ read-turn start size img at out done n k f h g =
     let left : n - done - k ≡ n - (done + k) = omega arith in
     let whole : ringRead start size img at (n - done) ≡ part ++ ringRead start size img 0 (n - (done + k)) =
     rw (← same, ← left) (read-on start size img at (n - done) k g) in
-    sym
+    let cut : start + at + k - (start + at) ≡ k = omega arith in
+    rw cut
+    (sym
     (ap (λ (l : List ℕ). putAt out done l) whole
     ∙ putAt-append out done part (ringRead start size img 0 (n - (done + k)))
-    ∙ rw lp)
+    ∙ rw lp))
 
 -- ---- writes
 
@@ -132,16 +134,17 @@ write-on start size img at s t g =
     last n [] e z = write-none start size _ (at + length s) ∙ sym (write-none start size _ 0)
     last n (b ∷ t) e z = absurd (omega arith)
 
--- the turn of a loop that has stored the first `done` bytes of s, and stores k more
+-- the turn of a loop that has stored the first `done` bytes of s, and stores the part `s[done..done + k]`
 pub write-turn : (start size : ℕ) (img : List ℕ) (at : ℕ) (s : List ℕ) (done k : ℕ) → done < length s → Segment size at (length s - done) k
-    → ringWrite start size (putAt img (start + at) (take k (drop done s))) 0 (drop (done + k) s) ≡ ringWrite start size img at (drop done s)
+    → ringWrite start size (putAt img (start + at) (take (done + k - done) (drop done s))) 0 (drop (done + k) s) ≡ ringWrite start size img at (drop done s)
 write-turn start size img at s done k h g =
     let rest : List ℕ = drop done s in
     let lr : length rest ≡ length s - done = length-drop done s in
     let lt : length (take k rest) ≡ k = length-take-le k rest (omega arith) in
     let ld : length (drop k rest) ≡ length s - done - k = length-drop k rest ∙ ap (λ (x : ℕ). x - k) lr in
     let all : length (take k rest) + length (drop k rest) ≡ length s - done = omega arith in
-    rw (← drop-drop k done s)
+    let cut : done + k - done ≡ k = omega arith in
+    rw (cut, ← drop-drop k done s)
     (sym (write-on start size img at (take k rest) (drop k rest) (rw (all, lt) g)) ∙ ap (λ (l : List ℕ). ringWrite start size img at l) (take-append-drop k rest))
 
 -- ---- zeros

@@ -2,7 +2,7 @@
 -- what the whole read makes of it. Assumes nothing.
 use mathlib.Core.Path.{_≡_, refl, _∙_}
 use mathlib.Core.List.{List}
-use Prim.Native.Nat.{ℕ, _+_, _-_, _≤_, _<_}
+use Prim.Native.Nat.{ℕ, _-_, _≤_, _<_}
 use native.Mathlib.Nat.{sub-zero}
 use native.Mathlib.Omega.{arith}
 use lib.ListN.{length}
@@ -71,13 +71,11 @@ loop-again c =
     let call = c .before .before in
     let seg = call .before .before .before .segment in
     let l = call .before .before .before .before .before in
-    let a = l .before .before .before .args in
-    let from : ℕ = a .start + l .loop .at in
-    let cut : from + seg .result - from ≡ seg .result = omega arith in (
+    let a = l .before .before .before .args in (
       omega arith,
       (
         omega arith,
-        rw (call .put .ensures, cut)
+        rw (call .put .ensures)
             (read-turn (a .start) (a .size) (now (a .image)) (l .loop .at) (l .loop .buf) (l .loop .done) (length (now (a .buf))) (seg .result)
             (omega arith) (omega arith) (rw (l .loop .inv .1 .0) at (seg .ensures))
             ∙ l .loop .inv .1 .1),

@@ -2,7 +2,7 @@
 -- what the whole write makes of the image that came in. Assumes nothing.
 use mathlib.Core.Path.{_≡_, refl, sym, _∙_}
 use mathlib.Core.List.{List}
-use Prim.Native.Nat.{ℕ, _+_, _-_, _≤_, _<_}
+use Prim.Native.Nat.{ℕ, _-_, _≤_, _<_}
 use native.Mathlib.Omega.{arith}
 use lib.ListN.{length, drop, drop-of-length-le}
 use denote.Ref.{now}
@@ -66,12 +66,11 @@ loop-again c =
     let call = c .before .before in
     let seg = call .before .before .before .segment in
     let l = call .before .before .before .before .before in
-    let a = l .before .before .before .args in
-    let cut : l .loop .done + seg .result - l .loop .done ≡ seg .result = omega arith in (
+    let a = l .before .before .before .args in (
       omega arith,
       (
         omega arith,
-        rw (call .put .ensures, cut)
+        rw (call .put .ensures)
             (write-turn (a .start) (a .size) (l .loop .image) (l .loop .at) (now (a .buf)) (l .loop .done) (seg .result) (omega arith) (seg .ensures)
             ∙ l .loop .inv .1 .1),
       ),
