@@ -3,7 +3,8 @@
 use std::io::{self, BufWriter, Read, Write};
 
 use crate::language::{self, SCRIPT_LIMIT};
-use crate::operations::{checksum, elements, file_headers, slots};
+use crate::operations::{checksum, elements, file_headers, ring, setup, slots};
+use crate::run::Run;
 
 /// Reads a script up to the limit and prints one line for each operation.
 pub fn answer(script: impl Read, answers: impl Write) -> io::Result<()> {
@@ -11,15 +12,16 @@ pub fn answer(script: impl Read, answers: impl Write) -> io::Result<()> {
     script.take(SCRIPT_LIMIT as u64).read_to_end(&mut text)?;
 
     let mut answers = BufWriter::new(answers);
+    let mut run = Run::new();
     for line in language::lines(&text) {
-        let answer = operation(&language::words(line));
+        let answer = operation(&mut run, &language::words(line));
         writeln!(answers, "{}", answer.as_deref().unwrap_or("bad"))?;
     }
     answers.flush()
 }
 
 /// Runs the operation that the first word names, if the number of words is right and each is good.
-fn operation(words: &[&[u8]]) -> Option<String> {
+fn operation(run: &mut Run, words: &[&[u8]]) -> Option<String> {
     match words {
         [b"crc", part] => checksum::crc(part),
         [b"crc_joined", first, second] => checksum::crc_joined(first, second),
@@ -35,6 +37,15 @@ fn operation(words: &[&[u8]]) -> Option<String> {
         [b"legacy_parse", header] => file_headers::legacy_parse(header),
         [b"v1_encode", fields @ ..] => file_headers::v1_encode(fields),
         [b"v1_parse", header] => file_headers::v1_parse(header),
+        [b"state", fields @ ..] => setup::state(run, fields),
+        [b"poke", offset, bytes] => setup::poke(run.queue()?, offset, bytes),
+        [b"extend", len] => setup::extend(run.queue()?, len),
+        [b"ring_add", place, distance] => ring::ring_add(run.queue()?, place, distance),
+        [b"ring_distance", from, to] => ring::ring_distance(run.queue()?, from, to),
+        [b"ring_read", place, len] => ring::ring_read(run.queue()?, place, len),
+        [b"ring_write", place, bytes] => ring::ring_write(run.queue()?, place, bytes),
+        [b"ring_erase", place, len] => ring::ring_erase(run.queue()?, place, len),
+        [b"relocate", old_len, count] => ring::relocate(run.queue()?, old_len, count),
         _ => None,
     }
 }
@@ -63,6 +74,15 @@ mod tests {
     fn every_line_but_comments_and_empty_ones_is_answered() {
         let script = "# c\n\ncrc -\ncrc\nCRC -\ncrc - -\n crc -\ncrc - ";
         assert_eq!(answers(script), "0 0 0 : 00000000\nbad\nbad\nbad\nbad\nbad\n");
+    }
+
+    #[test]
+    fn a_script_begins_without_a_state_and_with_an_image_of_zeros() {
+        let state = "state A 0 8292 8292 0 1 0 0 0 0 0 0 8192 0\n";
+        let changed = answers(format!("{state}ring_write 0 31\n{state}"));
+        assert_ne!(changed.lines().last(), changed.lines().next());
+        assert_eq!(answers(format!("ring_read 0 1\n{state}")), format!("bad\n{}", answers(state)));
+        assert_eq!(answers(state).lines().next(), changed.lines().next());
     }
 
     #[test]

@@ -9,6 +9,8 @@ use crate::refusals::Refusal;
 pub const SCRIPT_LIMIT: usize = 1 << 20;
 /// The longest byte string.
 pub const BYTES_LIMIT: usize = 262_144;
+/// The longest output of an operation, in bytes.
+pub const OUTPUT_LIMIT: usize = 65_536;
 /// The byte string of no bytes.
 pub const NO_BYTES: &str = "-";
 /// What the driver answers where the Rust has nothing to compare with.
@@ -84,6 +86,11 @@ pub fn spell_numbers(numbers: &[u64]) -> String {
 /// The line of an operation that refuses nothing and has no state to show.
 pub fn accepted(answer: impl Display) -> String {
     format!("0 0 0 : {answer}")
+}
+
+/// The line of an operation that refuses nothing, with the state after it.
+pub fn accepted_with_state(state: impl Display, answer: impl Display) -> String {
+    format!("0 0 0 {state} : {answer}")
 }
 
 /// The line of an operation that refuses and has no state to show: no answer stands behind it.
@@ -173,8 +180,9 @@ mod tests {
     }
 
     #[test]
-    fn a_refused_line_ends_behind_the_colon() {
+    fn a_line_without_an_answer_ends_behind_the_colon() {
         assert_eq!(refused(Refusal { number: 22, first: 3, second: 0 }), "22 3 0 : ");
         assert_eq!(accepted(""), "0 0 0 : ");
+        assert_eq!(accepted_with_state("A 1", ""), "0 0 0 A 1 : ");
     }
 }

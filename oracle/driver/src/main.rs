@@ -3,12 +3,15 @@
 
 mod answer;
 mod compare;
+mod image;
 mod language;
 mod operations;
 mod random;
 mod refusals;
+mod run;
 mod scratch;
 mod scripts;
+mod state;
 mod tally;
 
 use std::io::Read;

@@ -1,5 +1,5 @@
-//! A ring of the upstream code over a small file, for upstream functions that read from nothing
-//! else.
+//! The upstream code's hold on a file, over a nameless one, and a small ring on it for upstream
+//! functions that read from nothing else.
 
 use std::cell::RefCell;
 use std::fs::{self, File};
@@ -9,17 +9,18 @@ use std::{env, process};
 use queue_file::inside::header::V2_DATA_START;
 use queue_file::inside::qio::{DataRing, DataRingMut, QueueFileInner};
 
-/// The ring's capacity, in bytes.
+/// The small ring's capacity, in bytes.
 const CAPACITY: u64 = 64;
 
 thread_local! {
     /// Made at the first use and kept, since a file for each call would cost more than the call.
-    static QUEUE: RefCell<QueueFileInner> = RefCell::new(queue());
+    static SMALL: RefCell<QueueFileInner> =
+        RefCell::new(QueueFileInner { file_len: V2_DATA_START + CAPACITY, ..queue() });
 }
 
-/// What `read` returns on a ring that begins with these bytes.
+/// What `read` returns on the small ring that begins with these bytes.
 pub fn on_ring<T>(bytes: &[u8], read: impl FnOnce(&DataRing<'_>) -> T) -> T {
-    QUEUE.with(|queue| {
+    SMALL.with(|queue| {
         let mut queue = queue.borrow_mut();
         let mut ring = DataRingMut::new(&mut queue, V2_DATA_START);
         ring.write_at(0, bytes).expect("the scratch file is written");
@@ -27,14 +28,15 @@ pub fn on_ring<T>(bytes: &[u8], read: impl FnOnce(&DataRing<'_>) -> T) -> T {
     })
 }
 
-/// Nothing waits for the disk: the bytes are read back by the same process and then no more.
-fn queue() -> QueueFileInner {
+/// A new, empty file in the upstream code's hands. Nothing waits for the disk: the bytes are read
+/// back by the same process and then no more.
+pub fn queue() -> QueueFileInner {
     QueueFileInner {
         file: Some(nameless_file()),
-        file_len: V2_DATA_START + CAPACITY,
+        file_len: 0,
         expected_seek: 0,
         last_seek: None,
-        transfer_buf: Box::default(),
+        transfer_buf: vec![0; QueueFileInner::TRANSFER_BUFFER_SIZE].into_boxed_slice(),
         sync_writes: false,
         deferred_sync_phase: None,
     }

@@ -4,6 +4,8 @@
 pub mod checksum;
 pub mod elements;
 pub mod file_headers;
+pub mod ring;
+pub mod setup;
 pub mod slots;
 
 use std::fmt::Display;

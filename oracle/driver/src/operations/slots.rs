@@ -46,7 +46,7 @@ pub fn elect(a: &[u8], b: &[u8]) -> Option<String> {
     ))
 }
 
-fn spell_name(name: HeaderSlot) -> &'static str {
+pub fn spell_name(name: HeaderSlot) -> &'static str {
     match name {
         HeaderSlot::A => "A",
         HeaderSlot::B => "B",

@@ -1,0 +1,88 @@
+//! The image that the lines of a script share: a buffer that is kept in a nameless file, where the
+//! upstream ring finds it.
+
+use std::fs::File;
+use std::io;
+use std::os::unix::fs::FileExt;
+
+use queue_file::inside::header::{self, V2_DATA_START};
+use queue_file::inside::qio::{DataRingMut, QueueFileInner};
+
+use crate::scratch;
+
+/// The buffer's length. The file has it from the start and keeps it, so that bytes beyond the real
+/// length are there too; the real length is a number of the state.
+pub const IMAGE_LEN: u64 = 262_144;
+
+pub struct Image {
+    queue: QueueFileInner,
+}
+
+impl Image {
+    /// An image of zeros.
+    pub fn new() -> Self {
+        let image = Self { queue: scratch::queue() };
+        image.with_file(|file| file.set_len(IMAGE_LEN));
+        image
+    }
+
+    /// The upstream ring at this file length. What an earlier call noted of the file's cursor is
+    /// forgotten, so that each call stands alone.
+    pub fn ring(&mut self, file_len: u64) -> DataRingMut<'_> {
+        self.queue.file_len = file_len;
+        self.queue.last_seek = None;
+        DataRingMut::new(&mut self.queue, V2_DATA_START)
+    }
+
+    /// Changes these bytes, which end within the image.
+    pub fn store(&mut self, offset: u64, bytes: &[u8]) {
+        self.with_file(|file| file.write_all_at(bytes, offset));
+    }
+
+    /// The CRC-32 of the image up to the real length or its own end.
+    pub fn crc(&self, real_len: u64) -> u32 {
+        let mut bytes = vec![0; real_len.min(IMAGE_LEN) as usize];
+        self.with_file(|file| file.read_exact_at(&mut bytes, 0));
+        header::crc32(&bytes)
+    }
+
+    fn with_file(&self, act: impl FnOnce(&File) -> io::Result<()>) {
+        self.queue.file_ref().and_then(act).expect("the scratch file serves");
+    }
+}
+
+#[cfg(test)]
+mod tests {
+    use super::*;
+
+    #[test]
+    fn an_image_is_zero_at_the_start() {
+        assert_eq!(Image::new().crc(IMAGE_LEN), header::crc32(&vec![0; IMAGE_LEN as usize]));
+    }
+
+    #[test]
+    fn the_crc_covers_the_real_length_and_no_more() {
+        let mut image = Image::new();
+        image.store(5, b"123456789");
+        assert_eq!(image.crc(0), header::crc32(b""));
+        assert_eq!(image.crc(8), header::crc32(b"\0\0\0\0\x00123"));
+        assert_eq!(image.crc(14), header::crc32(b"\0\0\0\0\x00123456789"));
+        assert_eq!(image.crc(u64::MAX), image.crc(IMAGE_LEN));
+    }
+
+    #[test]
+    fn two_images_share_no_bytes() {
+        let (mut one, other) = (Image::new(), Image::new());
+        one.store(0, b"1");
+        assert_ne!(one.crc(1), other.crc(1));
+    }
+
+    #[test]
+    fn a_ring_begins_behind_the_slots_and_ends_at_its_file_length() {
+        let mut image = Image::new();
+        image.ring(V2_DATA_START + 4).write_at(3, b"ab").unwrap();
+        let mut read = [0; 4];
+        image.ring(V2_DATA_START + 8).as_read_only().read_at(0, &mut read).unwrap();
+        assert_eq!(&read, b"b\0\0a");
+    }
+}
