@@ -13,7 +13,7 @@ use crate::run::Queue;
 
 /// The longest erasure that is run. The upstream code goes over the ring again and again, so that a
 /// longer one would not end in any useful time; the port erases, so nothing may come behind it.
-const LONGEST_ERASED: u64 = 16 << 20;
+pub const LONGEST_ERASED: u64 = 16 << 20;
 
 /// A sum that does not fit would wrap in the upstream code.
 pub fn ring_add(queue: Queue<'_>, place: &[u8], distance: &[u8]) -> Option<String> {

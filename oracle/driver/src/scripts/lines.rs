@@ -2,6 +2,7 @@
 
 use super::Line;
 use crate::language::{spell_bytes, spell_numbers};
+use crate::state::State;
 
 pub fn crc(part: &[u8]) -> Line {
     format!("crc {}", spell_bytes(part)).into_bytes()
@@ -57,4 +58,40 @@ pub fn v1_encode(fields: [u64; 4]) -> Line {
 
 pub fn v1_parse(header: &[u8]) -> Line {
     format!("v1_parse {}", spell_bytes(header)).into_bytes()
+}
+
+pub fn state(state: State) -> Line {
+    format!("state {state}").into_bytes()
+}
+
+pub fn poke(offset: u64, bytes: &[u8]) -> Line {
+    format!("poke {offset} {}", spell_bytes(bytes)).into_bytes()
+}
+
+pub fn extend(len: u64) -> Line {
+    format!("extend {len}").into_bytes()
+}
+
+pub fn ring_add(place: u64, distance: u64) -> Line {
+    format!("ring_add {place} {distance}").into_bytes()
+}
+
+pub fn ring_distance(from: u64, to: u64) -> Line {
+    format!("ring_distance {from} {to}").into_bytes()
+}
+
+pub fn ring_read(place: u64, len: u64) -> Line {
+    format!("ring_read {place} {len}").into_bytes()
+}
+
+pub fn ring_write(place: u64, bytes: &[u8]) -> Line {
+    format!("ring_write {place} {}", spell_bytes(bytes)).into_bytes()
+}
+
+pub fn ring_erase(place: u64, len: u64) -> Line {
+    format!("ring_erase {place} {len}").into_bytes()
+}
+
+pub fn relocate(old_len: u64, count: u64) -> Line {
+    format!("relocate {old_len} {count}").into_bytes()
 }

@@ -8,6 +8,13 @@ mod file_headers;
 mod layouts;
 mod limits;
 mod lines;
+mod misspellings;
+mod ring;
+mod ring_large;
+mod ring_limits;
+mod ring_sample;
+mod ring_small;
+mod ring_spellings;
 mod sample;
 mod slots;
 mod spellings;
@@ -26,6 +33,7 @@ pub fn family(name: &str, seed: u64) -> Option<Vec<Script>> {
         "slots" => Some(slots::scripts(random)),
         "elements" => Some(elements::scripts(random)),
         "file_headers" => Some(file_headers::scripts(random)),
+        "ring" => Some(ring::scripts(random)),
         "sample" => Some(sample::scripts(random)),
         _ => None,
     }
@@ -33,17 +41,29 @@ pub fn family(name: &str, seed: u64) -> Option<Vec<Script>> {
 
 /// The lines in as few scripts within the limit as keep their order.
 fn packed(lines: impl IntoIterator<Item = Line>) -> Vec<Script> {
+    packed_groups(&[], lines.into_iter().map(|line| vec![line]))
+}
+
+/// The groups in as few scripts within the limit as keep their order. The lines of a group build on
+/// each other, so that none is cut; every script begins with the same lines.
+fn packed_groups(beginning: &[Line], groups: impl IntoIterator<Item = Vec<Line>>) -> Vec<Script> {
+    let beginning = joined(beginning);
     let mut scripts = Vec::new();
-    let mut script = Script::new();
-    for line in lines {
-        if script.len() + line.len() + 1 > SCRIPT_LIMIT {
-            scripts.push(std::mem::take(&mut script));
+    let mut script = beginning.clone();
+    for group in groups {
+        let group = joined(&group);
+        if script.len() + group.len() > SCRIPT_LIMIT {
+            scripts.push(std::mem::replace(&mut script, beginning.clone()));
         }
-        script.extend(line);
-        script.push(b'\n');
+        script.extend(group);
     }
     scripts.push(script);
     scripts
+}
+
+/// The lines, each with its newline.
+fn joined(lines: &[Line]) -> Script {
+    lines.iter().flat_map(|line| [line as &[u8], b"\n"]).flatten().copied().collect()
 }
 
 #[cfg(test)]
@@ -53,9 +73,9 @@ mod tests {
     use crate::language;
     use std::collections::BTreeSet;
 
-    /// What each family of codecs is to reach: operation and number, with the field for 22.
+    /// What each family but the first two is to reach: operation and number, with the field for 22.
     #[rustfmt::skip]
-    const REACHED: [(&str, &[&str]); 3] = [
+    const REACHED: [(&str, &[&str]); 4] = [
         ("slots", &[
             "slot_encode 0", "slot_encode 22 1", "slot_encode 22 2", "slot_encode 22 3",
             "slot_encode 22 4", "slot_parse 0", "slot_parse 31", "slot_parse skip",
@@ -75,6 +95,13 @@ mod tests {
             "v1_encode 22 1", "v1_encode 22 2", "v1_encode 22 3", "v1_encode 22 4", "v1_parse 0",
             "v1_parse 22 1", "v1_parse 22 2", "v1_parse 22 3", "v1_parse 22 4", "v1_parse 23",
             "v1_parse skip",
+        ]),
+        ("ring", &[
+            "state 0", "state bad", "poke 0", "poke bad", "extend 0", "extend bad",
+            "ring_add 0", "ring_add bad", "ring_add skip", "ring_distance 0", "ring_distance bad",
+            "ring_distance skip", "ring_read 0", "ring_read bad", "ring_read skip",
+            "ring_write 0", "ring_write bad", "ring_write skip", "ring_erase 0", "ring_erase bad",
+            "ring_erase skip", "relocate 0", "relocate bad", "relocate skip",
         ]),
     ];
 
@@ -98,7 +125,7 @@ mod tests {
 
     #[test]
     fn the_seed_decides() {
-        for name in ["crc", "bad", "slots", "elements", "file_headers"] {
+        for name in ["crc", "bad", "slots", "elements", "file_headers", "ring"] {
             assert!(family(name, 7) == family(name, 7), "{name}");
             assert!(family(name, 7) != family(name, 8), "{name}");
         }
@@ -106,7 +133,7 @@ mod tests {
     }
 
     #[test]
-    fn codecs_reach_every_refusal_and_are_well_spelled() {
+    fn every_answer_is_reached_and_no_other() {
         for (name, wanted) in REACHED {
             let scripts = family(name, 1).unwrap();
             let wanted: BTreeSet<String> = wanted.iter().map(|told| told.to_string()).collect();
@@ -116,13 +143,14 @@ mod tests {
     }
 
     #[test]
-    fn codecs_have_as_many_lines_as_are_wanted() {
+    fn families_have_as_many_lines_as_are_wanted() {
         let lines = |name| all_lines(&family(name, 1).unwrap()).len();
         assert!(lines("slots") + lines("elements") + lines("file_headers") >= 210_000);
+        assert!(lines("ring") >= 60_000);
     }
 
     #[test]
-    fn the_sample_shows_every_answer_of_the_codecs_and_none_is_passed_over() {
+    fn the_sample_shows_every_answer_and_none_is_passed_over() {
         let shown = reached(&family("sample", 1).unwrap());
         for told in REACHED.iter().flat_map(|(_, reached)| reached.iter()) {
             assert_eq!(shown.contains(*told), !told.ends_with("skip"), "{told}");
@@ -137,6 +165,16 @@ mod tests {
         assert_eq!(all_lines(&scripts), lines);
         assert!(scripts.iter().all(|script| script.len() <= SCRIPT_LIMIT));
         assert_eq!(packed([vec![b'a'; SCRIPT_LIMIT - 1], vec![b'b']]).len(), 2);
+    }
+
+    #[test]
+    fn groups_stay_whole_and_every_script_begins_alike() {
+        let group = |byte: u8| vec![vec![byte; SCRIPT_LIMIT / 3], vec![byte]];
+        let scripts = packed_groups(&[b"first".to_vec()], [group(b'a'), group(b'b'), group(b'c')]);
+        assert_eq!(scripts.len(), 2);
+        let begins = |script: &Script| script.starts_with(b"first\n");
+        assert!(scripts.iter().all(begins));
+        assert!(scripts[0].ends_with(b"\nb\n") && scripts[1].ends_with(b"\nc\n"));
     }
 
     #[test]

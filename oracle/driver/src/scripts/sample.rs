@@ -3,6 +3,8 @@
 use super::codec_sample;
 use super::codec_spellings::few_wrong_codecs;
 use super::lines::{crc, crc_joined};
+use super::ring_sample;
+use super::ring_spellings::{few_wrong_ring_lines, without_a_state};
 use super::spellings::ODD_LINES;
 use super::{packed, Line, Script};
 use crate::random::Random;
@@ -22,8 +24,10 @@ pub fn scripts(random: &mut Random) -> Vec<Script> {
     lines.push(comment("Longer parts, cut in two."));
     lines.extend([12, 28, 52, 300].iter().flat_map(|len| some_splits(&random.bytes(*len))));
     lines.extend(codecs());
+    lines.extend(ring());
     lines.push(comment("Odd spellings; the last line has no newline."));
     lines.extend(few_wrong_codecs());
+    lines.extend(few_wrong_ring_lines());
     lines.extend(printable_odd_lines());
 
     let mut script = packed(lines).concat();
@@ -45,8 +49,26 @@ fn codecs() -> Vec<Line> {
         ("Legacy headers.", codec_sample::legacy_headers()),
         ("V1 headers.", codec_sample::v1_headers()),
     ];
-    let with_its_title = |(title, lines)| [vec![comment(title)], lines].concat();
-    parts.into_iter().flat_map(with_its_title).collect()
+    with_titles(parts)
+}
+
+/// Each operation of the ring with each of its answers.
+fn ring() -> Vec<Line> {
+    let parts = [
+        ("The ring without a state, and with one.", without_a_state()),
+        ("States as given.", ring_sample::states()),
+        ("Bytes of the image.", ring_sample::image_changed()),
+        ("Places and distances.", ring_sample::places()),
+        ("The ring read.", ring_sample::reads()),
+        ("The ring written.", ring_sample::writes()),
+        ("The ring erased.", ring_sample::erasures()),
+        ("Bytes moved behind the old end.", ring_sample::relocations()),
+    ];
+    with_titles(parts)
+}
+
+fn with_titles<const N: usize>(parts: [(&str, Vec<Line>); N]) -> Vec<Line> {
+    parts.into_iter().flat_map(|(title, lines)| [vec![comment(title)], lines].concat()).collect()
 }
 
 fn comment(text: &str) -> Line {
