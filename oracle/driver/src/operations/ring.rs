@@ -12,7 +12,8 @@ use crate::language::{bytes, number, spell_bytes, OUTPUT_LIMIT, SKIP};
 use crate::run::Queue;
 
 /// The longest erasure that is run. The upstream code goes over the ring again and again, so that a
-/// longer one would not end in any useful time; the port erases, so nothing may come behind it.
+/// longer one would not end in any useful time. The port erases it, so a script has such a line
+/// last, or lays the ring anew behind it.
 pub const LONGEST_ERASED: u64 = 16 << 20;
 
 /// A sum that does not fit would wrap in the upstream code.
