@@ -2,6 +2,12 @@
 use refusal::Refusal;
 use refusal::Verdict;
 
+// Whether bytes were put in the output, and how many.
+pub enum Output {
+    Nothing,
+    Bytes(usize),
+}
+
 // A refusal; where it is none, a letter, numbers and bytes, of which most answers have one kind or none. The answer to a line that
 // is no operation is bad, and the rest of it does not count.
 pub struct Answer {
@@ -14,11 +20,16 @@ pub struct Answer {
     pub number_count: usize,
     pub bytes: [u8; 56],
     pub byte_count: usize,
+    pub output: Output,
 }
 
 impl Answer {
     // A refusal, or nothing where it is none.
     pub fn of_refusal(refusal: Refusal) -> Answer {
+        Answer::with_output(refusal, Output::Nothing)
+    }
+
+    fn with_output(refusal: Refusal, output: Output) -> Answer {
         Answer {
             bad: false,
             refusal: refusal,
@@ -27,6 +38,7 @@ impl Answer {
             number_count: 0,
             bytes: [0; 56],
             byte_count: 0,
+            output: output,
         }
     }
 
@@ -55,5 +67,13 @@ impl Answer {
         answer.bytes = room;
         answer.byte_count = bytes.len();
         answer
+    }
+
+    // What was read into the output: so many bytes, or a refusal.
+    pub fn of_output(verdict: Verdict, count: usize) -> Answer {
+        match verdict {
+            Verdict::Granted => Answer::with_output(Refusal::NONE, Output::Bytes(count)),
+            Verdict::Refused(refusal) => Answer::of_refusal(refusal),
+        }
     }
 }

@@ -1,14 +1,20 @@
 // Runs a script of operations, read from standard input, and prints one line for each.
-// Here stands what there is one of: the script, the byte strings of a line, and the text that waits to be written.
+// Here stands what there is one of: the script, the byte strings of a line, the image that the queue and the ring lie in, and the text
+// that waits to be written. The state, of which there is one too, is a value that goes from line to line.
 mod answer;
+mod bench;
 mod checksum;
+mod done;
 mod elements;
 mod file_headers;
+mod on_ring;
 mod operation;
 mod output;
 mod part;
 mod run;
+mod setup;
 mod slots;
+mod state;
 mod words;
 
 ghost use mathlib.Core.Path.{_≡_};
@@ -21,18 +27,25 @@ fn script_room() -> [u8; 1048576]
     [0; 1048576]
 }
 
-// The byte strings of a line, of which there are two at most.
+// The byte strings of a line, of which there are two at most. The operations with an output have none, so it is the output as well.
 fn string_room() -> [u8; 524288]
     ensures { λ r. ⌜ 524288 ≡ length r ⌝ }
 {
     [0; 524288]
 }
 
+fn image_room() -> [u8; 262144]
+    ensures { λ r. ⌜ 262144 ≡ length r ⌝ }
+{
+    [0; 262144]
+}
+
 fn main() {
     let mut text = script_room();
     let n = io::read_full(libc::STDIN_FILENO, &mut text);
     let mut room = string_room();
+    let mut image = image_room();
     let mut buf = io::large_buffer();
-    let len = run::run_script(&text[..n], &mut room, &mut buf);
+    let len = run::run_script(&text[..n], &mut room, &mut image, &mut buf);
     output::flush(&buf, len);
 }

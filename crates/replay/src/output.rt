@@ -1,7 +1,12 @@
 // The text that waits to be written: the first `len` bytes of `buf`. It is written where `buf` is full and at the end, so that a
 // script takes few system calls; each function that appends to it answers how many bytes wait then.
 use crate::answer::Answer;
+use crate::answer::Output;
+use crate::done::Done;
+use crate::done::Held;
 use crate::part::front;
+use crate::slots::letter;
+use crate::state::QueueFile;
 use refusal::Refusal;
 
 // Writes what waits.
@@ -22,31 +27,87 @@ fn put(buf: &mut [u8], len: usize, text: &[u8]) -> usize {
     0
 }
 
-// Appends the line of an answer.
-pub fn put_answer(buf: &mut [u8], len: usize, answer: Answer) -> usize {
+// Appends the line of an operation: `sum` is the image's checksum, and `output` is where the operation put what it read.
+pub fn put_done(buf: &mut [u8], len: usize, done: Done, sum: u32, output: &[u8]) -> usize {
+    let answer = done.answer;
     if answer.bad {
         return put(buf, len, b"bad\n");
     }
     let refusal = answer.refusal;
-    let start = put_refusal(buf, len, refusal);
-    let end = put_result(buf, start, answer);
+    let shown = done.shown;
+    let read = answer.output;
+    let state = put_refusal(buf, len, refusal);
+    let colon = put_shown(buf, state, shown, sum);
+    let result = put(buf, colon, b" : ");
+    let bytes = put_result(buf, result, answer);
+    let end = put_output(buf, bytes, read, output);
     put(buf, end, b"\n")
 }
 
-// Appends what begins every answer: the refusal's number and its two values, all 0 where nothing is refused, and the colon.
+// Appends what begins every answer: the refusal's number and its two values, all 0 where nothing is refused.
 fn put_refusal(buf: &mut [u8], len: usize, refusal: Refusal) -> usize {
     let values = [refusal.number as u64, refusal.first, refusal.second];
-    let end = put_decimals(buf, len, &values, 3);
-    put(buf, end, b" : ")
+    put_decimals(buf, len, &values, 3)
 }
 
-// Appends what an answer has where nothing is refused.
+// Appends the state and the image's checksum, where they are shown.
+fn put_shown(buf: &mut [u8], len: usize, shown: Held, sum: u32) -> usize {
+    let Held::State(q) = shown else {
+        return len;
+    };
+    let end = put_state(buf, len, q);
+    let start = put(buf, end, b" ");
+    put_hex(buf, start, &wire::u32_bytes(sum))
+}
+
+// Appends a state.
+fn put_state(buf: &mut [u8], len: usize, q: QueueFile) -> usize {
+    let format = q.format;
+    let slot = format.active_slot;
+    let first = q.first;
+    let last = q.last;
+    let settings = q.settings;
+    let numbers = [
+        format.generation,
+        q.file_len,
+        q.real_len,
+        q.elem_cnt as u64,
+        format.next_seq,
+        first.pos,
+        first.len,
+        first.seq,
+        last.pos,
+        last.len,
+        last.seq,
+        settings.capacity,
+        flag(settings.overwrite_on_remove),
+    ];
+    let start = put(buf, len, &[b' ', letter(slot), b' ']);
+    put_decimals(buf, start, &numbers, 13)
+}
+
+fn flag(on: bool) -> u64 {
+    if on { 1 } else { 0 }
+}
+
+// Appends what an answer has where nothing is refused, but for the output.
 fn put_result(buf: &mut [u8], len: usize, answer: Answer) -> usize {
     let numbers = answer.numbers;
     let bytes = answer.bytes;
     let start = put_letter(buf, len, answer.letter);
     let end = put_decimals(buf, start, &numbers, answer.number_count);
     put_hex(buf, end, front(&bytes, answer.byte_count))
+}
+
+// Appends what was read into `output`, a byte string: `-` where it has no bytes.
+fn put_output(buf: &mut [u8], len: usize, read: Output, output: &[u8]) -> usize {
+    let Output::Bytes(n) = read else {
+        return len;
+    };
+    if n == 0 {
+        return put(buf, len, b"-");
+    }
+    put_hex(buf, len, front(output, n))
 }
 
 // Appends a letter and a space, where there is a letter.

@@ -1,34 +1,62 @@
 // A script line by line. An operation prints one line, an empty line and a remark print nothing, and any other line prints `bad`.
 use crate::answer::Answer;
+use crate::bench;
+use crate::bench::BenchOperation;
+use crate::done::Done;
+use crate::done::Held;
 use crate::operation::Operation;
 use crate::operation::answer;
 use crate::operation::named;
 use crate::operation::shape;
-use crate::output::put_answer;
+use crate::output::put_done;
 use crate::part::behind;
 use crate::part::front;
+use crate::setup;
 use crate::words::Lengths;
 use crate::words::ReadNumbers;
 use crate::words::read_numbers;
 use crate::words::read_strings;
 
+// How far a script has come: how many bytes wait in `buf`, and the state.
+pub struct Progress {
+    pub len: usize,
+    pub held: Held,
+}
+
 // Runs every line, and answers how many bytes wait in `buf` at the end. What stands behind the last newline is a line if it has bytes.
-pub fn run_script(text: &[u8], room: &mut [u8], buf: &mut [u8]) -> usize {
-    let mut len = 0;
+pub fn run_script(text: &[u8], room: &mut [u8], image: &mut [u8], buf: &mut [u8]) -> usize {
+    let mut progress = Progress {
+        len: 0,
+        held: Held::Nothing,
+    };
     let mut at = 0;
     while at < text.len() {
         let end = script::line_end(text, at);
-        len = run_line(&text[at..end], room, buf, len);
+        progress = run_line(&text[at..end], room, image, buf, progress);
         at = end + 1;
     }
-    len
+    progress.len
 }
 
-fn run_line(line: &[u8], room: &mut [u8], buf: &mut [u8], len: usize) -> usize {
+fn run_line(
+    line: &[u8],
+    room: &mut [u8],
+    image: &mut [u8],
+    buf: &mut [u8],
+    progress: Progress,
+) -> Progress {
     if is_silent(line) {
-        return len;
+        return progress;
     }
-    put_answer(buf, len, answer_line(line, room))
+    let held = progress.held;
+    let done = do_line(line, room, image, held);
+    let shown = done.shown;
+    let after = done.after;
+    let sum = image_sum(image, shown);
+    Progress {
+        len: put_done(buf, progress.len, done, sum, room),
+        held: after,
+    }
 }
 
 // An empty line or a remark.
@@ -37,6 +65,46 @@ fn is_silent(line: &[u8]) -> bool {
         return true;
     }
     line[0] == b'#'
+}
+
+// The CRC-32 of the image up to a state's real length, or 0 where no state is shown.
+fn image_sum(image: &[u8], shown: Held) -> u32 {
+    match shown {
+        Held::State(q) => crc::crc32(front(image, q.real_len as usize)),
+        Held::Nothing => 0,
+    }
+}
+
+// An operation on the bench, or one that needs none.
+fn do_line(line: &[u8], room: &mut [u8], image: &mut [u8], held: Held) -> Done {
+    let operation = bench::named(script::word(line, 0));
+    if let BenchOperation::Unknown = operation {
+        return Done::elsewhere(answer_line(line, room), held);
+    }
+    if let BenchOperation::State = operation {
+        return setup::give(line, held);
+    }
+    work_line(line, operation, room, image, held)
+}
+
+// Reads the words of a line that needs a state, and does what it says.
+fn work_line(
+    line: &[u8],
+    operation: BenchOperation,
+    room: &mut [u8],
+    image: &mut [u8],
+    held: Held,
+) -> Done {
+    let Held::State(q) = held else {
+        return Done::bad(held);
+    };
+    let ReadNumbers::Of(n) = read_numbers(line, bench::shape(operation)) else {
+        return Done::bad(held);
+    };
+    let Lengths::Of(len, _) = read_strings(line, bench::shape(operation), room) else {
+        return Done::bad(held);
+    };
+    bench::work(operation, n, len, room, image, q)
 }
 
 // Reads the byte strings of a line into `room`, and answers the line.

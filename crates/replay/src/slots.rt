@@ -58,7 +58,7 @@ fn open_state(state: V2OpenState) -> Answer {
     answer
 }
 
-fn letter(slot: HeaderSlot) -> u8 {
+pub fn letter(slot: HeaderSlot) -> u8 {
     match slot {
         HeaderSlot::A => b'A',
         HeaderSlot::B => b'B',

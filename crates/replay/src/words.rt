@@ -121,7 +121,7 @@ pub fn read_numbers(line: &[u8], shape: Shape) -> ReadNumbers {
 }
 
 // Puts each number of a line at its word's place in `out`, and answers whether the line has the words of its shape.
-fn fill_numbers(line: &[u8], shape: Shape, out: &mut [u64]) -> bool {
+pub fn fill_numbers(line: &[u8], shape: Shape, out: &mut [u64]) -> bool {
     let mut i = 1;
     while i < out.len() {
         let Number::Of(n) = number_at(line, shape, i) else {
