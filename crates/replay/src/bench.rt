@@ -1,7 +1,7 @@
 // The operations on the bench, which is the state, the image and the output: their names, the shapes of their lines, and who answers
-// them. They have an enum of their own, since a `match` over these and the others is more than the prover's search closes.
+// them.
+use crate::answer::Answer;
 use crate::done::Done;
-use crate::done::Held;
 use crate::on_ring;
 use crate::part::front;
 use crate::setup;
@@ -56,7 +56,7 @@ pub fn shape(operation: BenchOperation) -> Shape {
     }
 }
 
-// What a line with these numbers does. Its byte string is the first `len` bytes of the room.
+// What a line with these numbers does. Its byte string is the first `len` bytes of the room, which is the output as well.
 pub fn work(
     operation: BenchOperation,
     n: Numbers,
@@ -65,19 +65,30 @@ pub fn work(
     image: &mut [u8],
     q: QueueFile,
 ) -> Done {
-    let size = q.file_len;
+    if let BenchOperation::Extend = operation {
+        return setup::extend(image, n.first, q);
+    }
+    if let BenchOperation::RingRead = operation {
+        return Done::on_bench(on_ring::read(image, q.file_len, n, room), q);
+    }
+    Done::on_bench(answer(operation, n, front(room, len), image, q.file_len), q)
+}
+
+// The answer to a line that leaves the state as it is and has no output.
+fn answer(
+    operation: BenchOperation,
+    n: Numbers,
+    bytes: &[u8],
+    image: &mut [u8],
+    file_len: u64,
+) -> Answer {
     match operation {
-        BenchOperation::State => Done::bad(Held::State(q)),
-        BenchOperation::Poke => Done::on_bench(setup::poke(image, n.first, front(room, len)), q),
-        BenchOperation::Extend => setup::extend(image, n.first, q),
-        BenchOperation::RingAdd => Done::on_bench(on_ring::add(image, size, n), q),
-        BenchOperation::RingDistance => Done::on_bench(on_ring::distance(image, size, n), q),
-        BenchOperation::RingRead => Done::on_bench(on_ring::read(image, size, n, room), q),
-        BenchOperation::RingWrite => {
-            Done::on_bench(on_ring::write(image, size, n.first, front(room, len)), q)
-        }
-        BenchOperation::RingErase => Done::on_bench(on_ring::erase(image, size, n), q),
-        BenchOperation::Relocate => Done::on_bench(on_ring::relocate(image, n), q),
-        BenchOperation::Unknown => Done::bad(Held::State(q)),
+        BenchOperation::Poke => setup::poke(image, n.first, bytes),
+        BenchOperation::RingAdd => on_ring::add(image.len() as u64, file_len, n),
+        BenchOperation::RingDistance => on_ring::distance(image.len() as u64, file_len, n),
+        BenchOperation::RingWrite => on_ring::write(image, file_len, n.first, bytes),
+        BenchOperation::RingErase => on_ring::erase(image, file_len, n),
+        BenchOperation::Relocate => on_ring::relocate(image, n),
+        _ => Answer::bad(),
     }
 }

@@ -34,6 +34,7 @@ fn string_room() -> [u8; 524288]
     [0; 524288]
 }
 
+// The image is all of this room, whatever the real length.
 fn image_room() -> [u8; 262144]
     ensures { λ r. ⌜ 262144 ≡ length r ⌝ }
 {

@@ -8,13 +8,13 @@ use ring::Placed;
 const OUTPUT_LEN: usize = 65536;
 
 // `ring_add PLACE DISTANCE`
-pub fn add(image: &[u8], file_len: u64, n: Numbers) -> Answer {
-    placed(ring::add(image.len() as u64, file_len, n.first, n.second))
+pub fn add(image_len: u64, file_len: u64, n: Numbers) -> Answer {
+    placed(ring::add(image_len, file_len, n.first, n.second))
 }
 
 // `ring_distance FROM TO`
-pub fn distance(image: &[u8], file_len: u64, n: Numbers) -> Answer {
-    placed(ring::distance(image.len() as u64, file_len, n.first, n.second))
+pub fn distance(image_len: u64, file_len: u64, n: Numbers) -> Answer {
+    placed(ring::distance(image_len, file_len, n.first, n.second))
 }
 
 fn placed(placed: Placed) -> Answer {
@@ -24,7 +24,7 @@ fn placed(placed: Placed) -> Answer {
     }
 }
 
-// `ring_read PLACE N`. The output is the front of the room.
+// `ring_read PLACE N`. The output is the front of the room, which is long enough for every output.
 pub fn read(image: &[u8], file_len: u64, n: Numbers, room: &mut [u8]) -> Answer {
     let len = n.second as usize;
     if len > OUTPUT_LEN {

@@ -1,5 +1,5 @@
-// The operations: their names, the shapes of their lines, and who answers them. None holds a buffer or a state.
-// The prover's search closes a `match` over some twenty variants and no more, so operations of another kind want an enum of their own.
+// The operations that need no bench: their names, the shapes of their lines, and who answers them. None holds a buffer or a state.
+// The prover's search closes a `match` over some twenty variants and no more, so operations of another kind have an enum of their own.
 use crate::answer::Answer;
 use crate::checksum;
 use crate::elements;

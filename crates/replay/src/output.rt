@@ -35,12 +35,17 @@ pub fn put_done(buf: &mut [u8], len: usize, done: Done, sum: u32, output: &[u8])
     }
     let refusal = answer.refusal;
     let shown = done.shown;
-    let read = answer.output;
     let state = put_refusal(buf, len, refusal);
     let colon = put_shown(buf, state, shown, sum);
-    let result = put(buf, colon, b" : ");
-    let bytes = put_result(buf, result, answer);
-    let end = put_output(buf, bytes, read, output);
+    put_answer(buf, colon, answer, output)
+}
+
+// Appends the colon, what an answer has where nothing is refused, and the line's end.
+fn put_answer(buf: &mut [u8], len: usize, answer: Answer, output: &[u8]) -> usize {
+    let read = answer.output;
+    let start = put(buf, len, b" : ");
+    let rest = put_result(buf, start, answer);
+    let end = put_output(buf, rest, read, output);
     put(buf, end, b"\n")
 }
 
@@ -90,7 +95,7 @@ fn flag(on: bool) -> u64 {
     if on { 1 } else { 0 }
 }
 
-// Appends what an answer has where nothing is refused, but for the output.
+// Appends what an answer has beside the output.
 fn put_result(buf: &mut [u8], len: usize, answer: Answer) -> usize {
     let numbers = answer.numbers;
     let bytes = answer.bytes;

@@ -17,10 +17,10 @@ use crate::words::ReadNumbers;
 use crate::words::read_numbers;
 use crate::words::read_strings;
 
-// How far a script has come: how many bytes wait in `buf`, and the state.
-pub struct Progress {
-    pub len: usize,
-    pub held: Held,
+// What goes from line to line: how many bytes wait in `buf`, and the state.
+struct Progress {
+    len: usize,
+    held: Held,
 }
 
 // Runs every line, and answers how many bytes wait in `buf` at the end. What stands behind the last newline is a line if it has bytes.

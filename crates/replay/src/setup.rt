@@ -15,13 +15,13 @@ use refusal::Refusal;
 // `state SLOT GENERATION FILE_LEN REAL_LEN COUNT NEXT_SEQ FIRST_POS FIRST_LEN FIRST_SEQ LAST_POS LAST_LEN LAST_SEQ CAPACITY OVERWRITE`.
 // No other line has so many words, so they are read here.
 pub fn give(line: &[u8], held: Held) -> Done {
-    let mut n = [0u64; 15];
-    // The slot is no number, and neither are the words where a shape has byte strings.
-    if !fill_numbers(line, Shape::of_words(15, 1, 0), &mut n) {
-        return Done::bad(held);
-    }
     let slot = place(script::word(line, 1), b"A B");
     if slot > 1 {
+        return Done::bad(held);
+    }
+    let mut n = [0u64; 15];
+    // The slot is no number: the shape has a byte string in its place, and only the numbers are read by it.
+    if !fill_numbers(line, Shape::of_words(15, 1, 0), &mut n) {
         return Done::bad(held);
     }
     if n[5] > 0xffff_ffff {
@@ -30,35 +30,36 @@ pub fn give(line: &[u8], held: Held) -> Done {
     if n[14] > 1 {
         return Done::bad(held);
     }
-    let format = V2Format {
-        active_slot: slot_at(slot),
-        generation: n[2],
-        next_seq: n[6],
-    };
-    let first = Element {
-        pos: n[7],
-        len: n[8],
-        seq: n[9],
-    };
-    let last = Element {
-        pos: n[10],
-        len: n[11],
-        seq: n[12],
-    };
-    let settings = Settings {
-        capacity: n[13],
-        overwrite_on_remove: n[14] == 1,
-    };
-    let state = QueueFile {
+    let state = state_of(slot_at(slot), n[5] as u32, n);
+    Done::on_bench(Answer::of_refusal(Refusal::NONE), state)
+}
+
+// The state with this slot, this count and the other numbers of a line, each at its word's place.
+fn state_of(slot: HeaderSlot, count: u32, n: [u64; 15]) -> QueueFile {
+    QueueFile {
         file_len: n[3],
         real_len: n[4],
-        format: format,
-        elem_cnt: n[5] as u32,
-        first: first,
-        last: last,
-        settings: settings,
-    };
-    Done::on_bench(Answer::of_refusal(Refusal::NONE), state)
+        format: V2Format {
+            active_slot: slot,
+            generation: n[2],
+            next_seq: n[6],
+        },
+        elem_cnt: count,
+        first: Element {
+            pos: n[7],
+            len: n[8],
+            seq: n[9],
+        },
+        last: Element {
+            pos: n[10],
+            len: n[11],
+            seq: n[12],
+        },
+        settings: Settings {
+            capacity: n[13],
+            overwrite_on_remove: n[14] == 1,
+        },
+    }
 }
 
 fn slot_at(place: usize) -> HeaderSlot {
