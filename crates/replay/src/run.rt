@@ -98,10 +98,11 @@ fn work_line(
     let Held::State(q) = held else {
         return Done::bad(held);
     };
-    let ReadNumbers::Of(n) = read_numbers(line, bench::shape(operation)) else {
+    let shape = bench::shape(operation);
+    let ReadNumbers::Of(n) = read_numbers(line, shape) else {
         return Done::bad(held);
     };
-    let Lengths::Of(len, _) = read_strings(line, bench::shape(operation), room) else {
+    let Lengths::Of(len, _) = read_strings(line, shape, room) else {
         return Done::bad(held);
     };
     bench::work(operation, n, len, room, image, q)
