@@ -22,6 +22,10 @@ use Rattle.ring.proofs.Places.{there-ring, distance-lt, distance-there}
 use Rattle.ring.proofs.Reading.{length-read, getD-read, read-same, read-mod, read-none, read-append, read-straight}
 use Rattle.ring.proofs.Writing.{write-append, write-same, write-none, write-straight, write-long, write-ext, getD-write}
 
+-- a part `s[a..a + k]` is the k bytes from a on
+pub cut-mid : (a k : ℕ) (s : List ℕ) → take (a + k - a) (drop a s) ≡ take k (drop a s)
+cut-mid a k s = let e : a + k - a ≡ k = omega arith in rw e
+
 -- there is a byte before the ring's end
 pub segment-some : (size at n k : ℕ) → Segment size at n k → at < size → 0 < n → 0 < k
 segment-some size at n k g h l = ⊎-elim (λ e. omega arith) (λ e. omega arith) (g .ends)
@@ -108,8 +112,7 @@ read-turn start size img at out done n k f h g =
     let left : n - done - k ≡ n - (done + k) = omega arith in
     let whole : ringRead start size img at (n - done) ≡ part ++ ringRead start size img 0 (n - (done + k)) =
     rw (← same, ← left) (read-on start size img at (n - done) k g) in
-    let cut : start + at + k - (start + at) ≡ k = omega arith in
-    rw cut
+    rw (cut-mid (start + at) k img)
     (sym
     (ap (λ (l : List ℕ). putAt out done l) whole
     ∙ putAt-append out done part (ringRead start size img 0 (n - (done + k)))
@@ -143,8 +146,7 @@ write-turn start size img at s done k h g =
     let lt : length (take k rest) ≡ k = length-take-le k rest (omega arith) in
     let ld : length (drop k rest) ≡ length s - done - k = length-drop k rest ∙ ap (λ (x : ℕ). x - k) lr in
     let all : length (take k rest) + length (drop k rest) ≡ length s - done = omega arith in
-    let cut : done + k - done ≡ k = omega arith in
-    rw (cut, ← drop-drop k done s)
+    rw (cut-mid done k s, ← drop-drop k done s)
     (sym (write-on start size img at (take k rest) (drop k rest) (rw (all, lt) g)) ∙ ap (λ (l : List ℕ). ringWrite start size img at l) (take-append-drop k rest))
 
 -- ---- zeros

@@ -1,9 +1,10 @@
 -- `ring::parts::wrapped_part` meets its contract: the parts that are granted lie in the image. Assumes nothing.
-use mathlib.Core.Path.{_≡_, sym, _∙_}
-use Prim.Native.Nat.{_+_, _-_}
-use native.Mathlib.Omega.{arith}
+use mathlib.Core.Path.{sym, ap, _∙_}
+use Prim.Native.Nat.{_-_}
+use denote.Ref.{now}
 use borrow.Author.Needs.{needs}
-use Rattle.ring.proofs.Segments.{split-within}
+use Rattle.ring.specs.Ring.{wrappedBytes}
+use Rattle.ring.proofs.Segments.{cut-mid, split-within}
 use Rattle.ring.proofs.parts.wrapped_part.Statement.{statement}
 use Rattle.ring.proofs.parts.wrapped_part.Tie as tie
 
@@ -47,9 +48,10 @@ part-result-end-2 c =
 returns-2 : tie.Need-returns-2
 returns-2 c =
     let found = c .before .before .before in
+    let split = found .before .before in
+    let a = split .before .before .args in
     let x = found .p .given .0 .0 in
-    let cut : 8192 + x .«wrapped_len» - 8192 ≡ x .«wrapped_len» = omega arith in
-    rw (cut, sym (found .before .before .split .ensures) ∙ found .p .given .1)
+    cut-mid 8192 (x .«wrapped_len») (now (a .image)) ∙ ap (wrappedBytes 8192 (now (a .image))) (sym (found .p .given .1) ∙ split .split .ensures)
 
 pub wrapped-part-spec : {M : Type 1} → statement M
 wrapped-part-spec =
