@@ -1,6 +1,5 @@
 -- `ring::parts::wrapped_part` meets its contract: the parts that are granted lie in the image. Assumes nothing.
 use mathlib.Core.Path.{sym, ap, _∙_}
-use Prim.Native.Nat.{_-_}
 use denote.Ref.{now}
 use borrow.Author.Needs.{needs}
 use Rattle.ring.specs.Ring.{wrappedBytes}
