@@ -8,7 +8,7 @@ use native.Mathlib.Numerals.{add-one}
 use native.Mathlib.Omega.{arith}
 use lib.ListN.{length, getD, take, drop, set, length-set, length-drop, length-append, take-append-drop, drop-of-length-le, replicate, length-replicate, replicate-append-replicate}
 use lib.Seq.{sets-eq, length-sets, drop-drop, length-take-le, set-out, getD-set-same, getD-set-other, take-all, take-set-le, drop-set-add, take-append-seam, drop-append-seam, drop-append-add}
-use borrow.Rule.Slice.PartMut.{midOf, postOf, putMid}
+use borrow.Rule.Slice.PartMut.{midOf, postOf, putMid, same-len-mid}
 use Rattle.wire.specs.Wire.{Bytes, be, bytesAt, word, beVal, putAt}
 use Rattle.wire.proofs.Numbers.{length-be, beVal-be}
 
@@ -131,3 +131,41 @@ putAt-filled out at k n v w h e =
     let size : length (midOf at k out) ≡ k = length-take-le k (drop at out) (rw length-drop (omega arith)) in
     let count : length (replicate k v) ≡ k = length-replicate k v in
     rw size (rw count at (putAt-mid out at (replicate k v) (omega arith)) ∙ putAt-enough out at k n v h e)
+
+-- where the smaller of two lengths is reached, nothing is left to store, or no place to store it
+pub putAt-ended : (out src : List ℕ) (size n i : ℕ) → length out ≡ size → n ≤ i → (size ≤ n) ⊎ (length src ≤ n) → putAt out i (drop i src) ≡ out
+putAt-ended out src size n i e l (inl h) = putAt-out out i (drop i src) (omega arith)
+putAt-ended out src size n i e l (inr h) = rw (drop-of-length-le src {i = i} (omega arith))
+
+-- bytes that are held at the front of others are stored from there as they are
+pub putAt-held : (out held src : List ℕ) → length out ≡ length src → length src ≤ length held → putAt out 0 (putAt held 0 src) ≡ src
+putAt-held out held src e h =
+    ap (putAt out 0) (sets-eq src held 0 (omega arith))
+    ∙ putAt-append out 0 src (drop (0 + length src) held)
+    ∙ rw (putAt-all out src (sym e)) (putAt-out src (0 + length src) (drop (0 + length src) held) (omega arith))
+
+-- a part that is lent comes back with bytes of src: these are stored, and those from `next` on are still to be stored
+pub putAt-turn : {back : List ℕ} (out src : List ℕ) (at next : ℕ) → at ≤ next → next ≤ length out → next ≤ length src →
+    back ≡ take (next - at) (drop at src) → putAt (putMid at (next - at) out back) next (drop next src) ≡ putAt out at (drop at src)
+putAt-turn out src at next l ho hs e =
+    let k : ℕ = next - at in
+    let part : List ℕ = take k (drop at src) in
+    let count : length part ≡ k = length-take-le k (drop at src) (rw length-drop (omega arith)) in
+    let stored : putMid at k out part ≡ putAt out at part = rw count at (putAt-mid out at part (omega arith)) in
+    let end : at + k ≡ next = omega arith in
+    rw (e, stored)
+    (sym
+    (ap (putAt out at) (sym (take-append-drop k (drop at src)) ∙ ap (λ (l : List ℕ). part ++ l) (drop-drop k at src))
+    ∙ putAt-append out at part (drop (at + k) src)
+    ∙ rw (count, end)))
+
+-- and where `next` is the smaller length, all are stored
+pub putAt-last : {back : List ℕ} (out src : List ℕ) (size at next : ℕ) → length out ≡ size → at ≤ next → next ≤ length out → next ≤ length src →
+    (size ≤ next) ⊎ (length src ≤ next) → back ≡ take (next - at) (drop at src) → putMid at (next - at) out back ≡ putAt out at (drop at src)
+putAt-last {back} out src size at next n l ho hs h e =
+    let k : ℕ = next - at in
+    let count : length (take k (drop at src)) ≡ k = length-take-le k (drop at src) (rw length-drop (omega arith)) in
+    let room : length (midOf at k out) ≡ k = length-take-le k (drop at out) (rw length-drop (omega arith)) in
+    let same : length back ≡ length (midOf at k out) = ap length e ∙ count ∙ sym room in
+    sym (putAt-ended (putMid at k out back) src size next next (same-len-mid at k out back same ∙ n) (omega arith) h)
+    ∙ putAt-turn out src at next l ho hs e
