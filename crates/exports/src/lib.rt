@@ -1,10 +1,61 @@
-// What the benchmarks link from Rust: each function is one of the library's, under a name of its own.
+// What the benchmarks link from Rust: each function is one of the library's, under a name of its own. Where the library
+// answers with a verdict, its number is given, and 0 where nothing is refused.
 ghost use mathlib.Core.Path.{_≡_};
+ghost use lib.ListN.{length};
 ghost use Rattle.crc.specs.Crc.{crcOf};
+ghost use Rattle.refusal.specs.Verdict.{verdictRefusal};
+ghost use Rattle.ring.specs.Ring.{judgeRing, judgeRelocate};
 
 #[no_mangle]
 pub extern "C" fn port_crc32(part: &[u8]) -> u32
     ensures { λ r. ⌜ r ≡ crcOf (now (part .entry)) ⌝ }
 {
     crc::crc32(part)
+}
+
+#[no_mangle]
+pub extern "C" fn port_ring_read(
+    image: &[u8],
+    file_len: u64,
+    logical_pos: u64,
+    buf: &mut [u8],
+) -> u32
+    ensures { λ r. ⌜ r ≡ (verdictRefusal (judgeRing 8192 (length (now (image .entry))) «file_len»)) .number ⌝ }
+{
+    let refusal = ring::read_at(image, file_len, logical_pos, buf).refusal();
+    refusal.number
+}
+
+#[no_mangle]
+pub extern "C" fn port_ring_write(
+    image: &mut [u8],
+    file_len: u64,
+    logical_pos: u64,
+    buf: &[u8],
+) -> u32
+    ensures { λ r. ⌜ r ≡ (verdictRefusal (judgeRing 8192 (length (now (image .entry))) «file_len»)) .number ⌝ }
+{
+    let refusal = ring::write_at(image, file_len, logical_pos, buf).refusal();
+    refusal.number
+}
+
+#[no_mangle]
+pub extern "C" fn port_ring_erase(
+    image: &mut [u8],
+    file_len: u64,
+    logical_pos: u64,
+    len: u64,
+) -> u32
+    ensures { λ r. ⌜ r ≡ (verdictRefusal (judgeRing 8192 (length (now (image .entry))) «file_len»)) .number ⌝ }
+{
+    let refusal = ring::erase_at(image, file_len, logical_pos, len).refusal();
+    refusal.number
+}
+
+#[no_mangle]
+pub extern "C" fn port_relocate(image: &mut [u8], orig_file_len: u64, moved_count: u64) -> u32
+    ensures { λ r. ⌜ r ≡ (verdictRefusal (judgeRelocate 8192 (length (now (image .entry))) «orig_file_len» «moved_count»)) .number ⌝ }
+{
+    let refusal = ring::relocate(image, orig_file_len, moved_count).refusal();
+    refusal.number
 }

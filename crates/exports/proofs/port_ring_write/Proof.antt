@@ -1,0 +1,19 @@
+-- `exports::port_ring_write` meets its contract: the number is that of the verdict. Assumes nothing.
+use borrow.Author.Needs.{needs}
+use Rattle.exports.proofs.port_ring_write.Statement.{statement}
+use Rattle.exports.proofs.port_ring_write.Tie as tie
+
+write-at-requires : tie.Need-write-at-requires
+write-at-requires c κs = search needs
+
+refusal-requires : tie.Need-refusal-requires
+refusal-requires c κs = search needs
+
+same-length : tie.Need-same-length
+same-length c = search needs
+
+returns : tie.Need-returns
+returns c = rw (c .refusal .ensures, c .before .before .before .write-at .ensures)
+
+pub port-ring-write-spec : {M : Type 1} → statement M
+port-ring-write-spec = tie.close (tie.spec write-at-requires refusal-requires same-length returns)
