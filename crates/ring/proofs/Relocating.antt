@@ -1,14 +1,14 @@
 -- The laws of a relocation: what it leaves as it was, and that a longer ring then reads on as the shorter one did. Assumes nothing.
 use mathlib.Core.Path.{_≡_, ap, _∙_}
 use mathlib.Core.List.{List}
-use Prim.Native.Nat.{ℕ, suc, _+_, _-_, _%_, _≤_, _<_}
+use Prim.Native.Nat.{ℕ, _+_, _-_, _%_, _≤_, _<_}
 use native.Mathlib.Decide.{decLe}
 use native.Mathlib.Omega.{arith}
-use lib.ListN.{length, getD, set}
-use lib.Seq.{getD-set-other, length-sets}
+use lib.ListN.{length, getD}
+use lib.Seq.{length-sets}
 use Rattle.wire.specs.Wire.{Bytes, bytesAt, putAt}
-use Rattle.wire.proofs.Numbers.{length-bytesAt, bytes-bytesAt, bytesAt-same, getD-bytesAt}
-use Rattle.wire.proofs.Stores.{putAt-before, putAt-after, putAt-within, putAt-bytes}
+use Rattle.wire.proofs.Numbers.{length-bytesAt, bytes-bytesAt, bytesAt-same, bytesAt-append, getD-bytesAt}
+use Rattle.wire.proofs.Stores.{putAt-append, putAt-before, putAt-after, putAt-within, putAt-bytes}
 use Rattle.ring.specs.Ring.{ringRead, relocated}
 use Rattle.ring.proofs.Places.{turn-low, turn-high}
 use Rattle.ring.proofs.Reading.{read-ext}
@@ -46,17 +46,12 @@ read-relocated start size img c new p n h k f l =
     go j b (no x) =
         rw (turn-low size j (omega (arith, x))) (relocated-before start img (start + size) c (start + j) (omega (arith, x)))
 
--- the turn of a loop that has copied i of len bytes, and copies one more
-pub relocate-turn : (img : List ℕ) (start to len i : ℕ) → i < len → start + len ≤ to
-    → putAt (set img (to + i) (getD img (start + i) 0)) (to + (i + 1)) (bytesAt (len - (i + 1)) (set img (to + i) (getD img (start + i) 0)) (start + (i + 1)))
-    ≡ putAt img (to + i) (bytesAt (len - i) img (start + i))
-relocate-turn img start to len i h f =
-    let b : ℕ = getD img (start + i) 0 in
-    let left : ℕ = len - (i + 1) in
-    let more : len - i ≡ suc left = omega arith in
-    let next : to + (i + 1) ≡ suc (to + i) = omega arith in
-    let on : start + (i + 1) ≡ start + i + 1 = omega arith in
-    let kept : bytesAt left (set img (to + i) b) (start + i + 1) ≡ bytesAt left img (start + i + 1) =
-    bytesAt-same left (set img (to + i) b) img (start + i + 1)
-    (λ j l. getD-set-other img (to + i) (start + i + 1 + j) b 0 (λ e. omega arith)) in
-    rw (more, next, on) (ap (λ (r : List ℕ). putAt (set img (to + i) b) (suc (to + i)) r) kept)
+-- the first k bytes, and then the rest
+pub relocate-on : (start : ℕ) (img : List ℕ) (old k c : ℕ) → start + (k + c) ≤ old
+    → relocated start img old (k + c) ≡ relocated (start + k) (relocated start img old k) (old + k) c
+relocate-on start img old k c f =
+    let kept : bytesAt c (relocated start img old k) (start + k) ≡ bytesAt c img (start + k) =
+    bytesAt-same c (relocated start img old k) img (start + k) (λ i l. relocated-before start img old k (start + k + i) (omega arith)) in
+    ap (putAt img old) (bytesAt-append k c img start)
+    ∙ putAt-append img old (bytesAt k img start) (bytesAt c img (start + k))
+    ∙ rw (length-bytesAt k img start, ← kept)

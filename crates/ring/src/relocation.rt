@@ -4,20 +4,36 @@ ghost use Prim.Native.Nat.{_+_, _≤_};
 ghost use lib.ListN.{length};
 ghost use Rattle.refusal.specs.Verdict.{after};
 ghost use Rattle.ring.specs.Ring.{relocated, judgeRelocation};
+use crate::parts::segment;
 use crate::place::sum_within;
 use header::V2_DATA_START;
 use refusal::Refusal;
 use refusal::Verdict;
+
+// How many bytes are held at a time.
+const HELD: usize = 16384;
+
+// Copies len bytes of the image from `from` on to `to`, which lies behind them, by way of bytes that are held: two parts of one image
+// are not lent at once.
+fn relocate_part(image: &mut [u8], from: usize, to: usize, len: usize)
+    requires { ⌜ (len ≤ 16384) × (from + len ≤ to) × (to + len ≤ length (now image)) ⌝ }
+    ensures { λ _. ⌜ now (image .exit) ≡ relocated from (now (image .entry)) to len ⌝ }
+{
+    let mut held = [0u8; HELD];
+    wire::copy_into(&mut held, &image[from..from + len]);
+    wire::put(image, to, &held[0..len]);
+}
 
 // Copies len bytes of the image from `start` on to `to`, which lies behind them.
 fn relocate_bytes(image: &mut [u8], start: usize, to: usize, len: usize)
     requires { ⌜ (start + len ≤ to) × (to + len ≤ length (now image)) ⌝ }
     ensures { λ _. ⌜ now (image .exit) ≡ relocated start (now (image .entry)) to len ⌝ }
 {
-    let mut i = 0;
-    while i < len {
-        image[to + i] = image[start + i];
-        i += 1;
+    let mut done = 0;
+    while done < len {
+        let k = segment(HELD, 0, len - done);
+        relocate_part(image, start + done, to + done, k);
+        done += k;
     }
 }
 

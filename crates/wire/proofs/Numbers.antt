@@ -118,6 +118,13 @@ getD-bytesAt (suc w) s at (suc i) h =
     let e : at + 1 + i ≡ at + suc i = omega arith in
     getD-bytesAt w s (at + 1) i (omega arith) ∙ rw e
 
+-- the bytes of one part, and those of the next
+pub bytesAt-append : (v w : ℕ) (s : List ℕ) (at : ℕ) → bytesAt (v + w) s at ≡ bytesAt v s at ++ bytesAt w s (at + v)
+bytesAt-append zero w s at = rw (zero-add, add-zero)
+bytesAt-append (suc v) w s at =
+    let e : at + 1 + v ≡ at + suc v = omega arith in
+    rw (suc-add v w, ← e) (ap (λ (l : List ℕ). getD s at 0 ∷ l) (bytesAt-append v w s (at + 1)))
+
 -- within the list, the w bytes at `at` are a part of it
 pub bytesAt-part : (w : ℕ) (s : List ℕ) (at : ℕ) → at + w ≤ length s → bytesAt w s at ≡ take w (drop at s)
 bytesAt-part zero s at h = refl

@@ -1,4 +1,6 @@
--- `exports::port_ring_write` meets its contract: the number is that of the verdict. Assumes nothing.
+-- `exports::port_ring_write` meets its contract: the number is that of the verdict, and the bytes are those that
+-- it leaves. Assumes nothing.
+use mathlib.Core.Path.{_∙_}
 use borrow.Author.Needs.{needs}
 use Rattle.exports.proofs.port_ring_write.Statement.{statement}
 use Rattle.exports.proofs.port_ring_write.Tie as tie
@@ -13,7 +15,9 @@ same-length : tie.Need-same-length
 same-length c = search needs
 
 returns : tie.Need-returns
-returns c = rw (c .refusal .ensures, c .before .before .before .write-at .ensures)
+returns c =
+    let call = c .before .before .before .write-at .ensures in
+    (rw (c .refusal .ensures, call .0), call .1 ∙ rw (call .0))
 
 pub port-ring-write-spec : {M : Type 1} → statement M
 port-ring-write-spec = tie.close (tie.spec write-at-requires refusal-requires same-length returns)
