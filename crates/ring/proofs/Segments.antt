@@ -4,7 +4,7 @@ use mathlib.Core.Path.{_≡_, refl, sym, ap, _∙_}
 use mathlib.Core.Logic.{_⊎_, inl, inr, ⊎-elim}
 use mathlib.Core.List.{List, [], _∷_, _++_}
 use Prim.Native.Nat.{ℕ, _+_, _-_, _%_, _≤_, _<_}
-use native.Mathlib.Nat.{add-zero, zero-add, mod-lt, mod-self, zero-mod}
+use native.Mathlib.Nat.{add-zero, zero-add, sub-zero, mod-lt, mod-self, zero-mod}
 use native.Mathlib.Decide.{decLe}
 use native.Mathlib.Omega.{arith}
 use lib.ListN.{length, getD, take, drop, length-drop, take-append-drop, replicate, length-replicate, getD-replicate, replicate-append-replicate}
@@ -101,22 +101,32 @@ split-joins start img file p n parts e =
     let same : partsOf start (file - start) p n ≡ parts = cc in
     rw (← same) (sym (read-parts start (file - start) img p n (omega arith) (omega arith) fits))
 
--- the turn of a loop that has filled the first `done` of n bytes, and fills k more with a part `image[from..from + k]`
-pub read-turn : (start size : ℕ) (img : List ℕ) (at : ℕ) (out : List ℕ) (done n k : ℕ) → start + size ≤ length img → done < n → Segment size at (n - done) k
-    → putAt (putAt out done (take (start + at + k - (start + at)) (drop (start + at) img))) (done + k) (ringRead start size img 0 (n - (done + k)))
-    ≡ putAt out done (ringRead start size img at (n - done))
-read-turn start size img at out done n k f h g =
+-- k bytes stored in out from `done` on, and then the rest: the first part of a read, `image[from..from + k]`
+read-stored : (start size : ℕ) (img : List ℕ) (at : ℕ) (out : List ℕ) (done n k : ℕ) → start + size ≤ length img → Segment size at n k
+    → putAt (putAt out done (take k (drop (start + at) img))) (done + k) (ringRead start size img 0 (n - k))
+    ≡ putAt out done (ringRead start size img at n)
+read-stored start size img at out done n k f g =
     let part : List ℕ = take k (drop (start + at) img) in
     let same : bytesAt k img (start + at) ≡ part = bytesAt-part k img (start + at) (omega (arith, g .inside)) in
     let lp : length part ≡ k = length-take-le k (drop (start + at) img) (rw length-drop (omega (arith, g .inside))) in
-    let left : n - done - k ≡ n - (done + k) = omega arith in
-    let whole : ringRead start size img at (n - done) ≡ part ++ ringRead start size img 0 (n - (done + k)) =
-    rw (← same, ← left) (read-on start size img at (n - done) k g) in
-    rw (cut-mid (start + at) k img)
-    (sym
-    (ap (λ (l : List ℕ). putAt out done l) whole
-    ∙ putAt-append out done part (ringRead start size img 0 (n - (done + k)))
-    ∙ rw lp))
+    sym
+    (ap (putAt out done) (read-on start size img at n k g)
+    ∙ rw same (putAt-append out done part (ringRead start size img 0 (n - k)) ∙ rw lp))
+
+pub read-first : (start size : ℕ) (img : List ℕ) (at : ℕ) (out : List ℕ) (n k : ℕ) → start + size ≤ length img → Segment size at n k
+    → putAt (putAt out 0 (take (start + at + k - (start + at)) (drop (start + at) img))) k (ringRead start size img 0 (n - k))
+    ≡ putAt out 0 (ringRead start size img at n)
+read-first start size img at out n k f g =
+    rw (cut-mid (start + at) k img) (ap (λ (x : ℕ). putAt (putAt out 0 (take k (drop (start + at) img))) x (ringRead start size img 0 (n - k))) (sym (zero-add k)) ∙ read-stored start size img at out 0 n k f g)
+
+-- and a later one, `image[start..start + k]`, where `done` of n bytes are read
+pub read-next : (start size : ℕ) (img out : List ℕ) (done n k : ℕ) → start + size ≤ length img → Segment size 0 (n - done) k
+    → putAt (putAt out done (take (start + k - start) (drop start img))) (done + k) (ringRead start size img 0 (n - (done + k)))
+    ≡ putAt out done (ringRead start size img 0 (n - done))
+read-next start size img out done n k f g =
+    let left : n - (done + k) ≡ n - done - k = omega arith in
+    let stored = rw (add-zero start) at (read-stored start size img 0 out done (n - done) k f g) in
+    rw (cut-mid start k img, left) stored
 
 -- ---- writes
 
@@ -137,17 +147,25 @@ write-on start size img at s t g =
     last n [] e z = write-none start size _ (at + length s) ∙ sym (write-none start size _ 0)
     last n (b ∷ t) e z = absurd (omega arith)
 
--- the turn of a loop that has stored the first `done` bytes of s, and stores the part `s[done..done + k]`
-pub write-turn : (start size : ℕ) (img : List ℕ) (at : ℕ) (s : List ℕ) (done k : ℕ) → done < length s → Segment size at (length s - done) k
-    → ringWrite start size (putAt img (start + at) (take (done + k - done) (drop done s))) 0 (drop (done + k) s) ≡ ringWrite start size img at (drop done s)
-write-turn start size img at s done k h g =
-    let rest : List ℕ = drop done s in
-    let lr : length rest ≡ length s - done = length-drop done s in
-    let lt : length (take k rest) ≡ k = length-take-le k rest (omega arith) in
-    let ld : length (drop k rest) ≡ length s - done - k = length-drop k rest ∙ ap (λ (x : ℕ). x - k) lr in
-    let all : length (take k rest) + length (drop k rest) ≡ length s - done = omega arith in
-    rw (cut-mid done k s, ← drop-drop k done s)
-    (sym (write-on start size img at (take k rest) (drop k rest) (rw (all, lt) g)) ∙ ap (λ (l : List ℕ). ringWrite start size img at l) (take-append-drop k rest))
+-- the first part of a write, `s[0..k]`, and then the rest
+write-stored : (start size : ℕ) (img : List ℕ) (at : ℕ) (s : List ℕ) (k : ℕ) → Segment size at (length s) k
+    → ringWrite start size (putAt img (start + at) (take k s)) 0 (drop k s) ≡ ringWrite start size img at s
+write-stored start size img at s k g =
+    let lt : length (take k s) ≡ k = length-take-le k s (g .within) in
+    let ld : length (drop k s) ≡ length s - k = length-drop k s in
+    let all : length (take k s) + length (drop k s) ≡ length s = omega (arith, g .within) in
+    sym (write-on start size img at (take k s) (drop k s) (rw (all, lt) g)) ∙ ap (ringWrite start size img at) (take-append-drop k s)
+
+pub write-first : (start size : ℕ) (img : List ℕ) (at : ℕ) (s : List ℕ) (k : ℕ) → Segment size at (length s) k
+    → ringWrite start size (putAt img (start + at) (take (k - 0) (drop 0 s))) 0 (drop k s) ≡ ringWrite start size img at s
+write-first start size img at s k g = rw (sub-zero k) (write-stored start size img at s k g)
+
+-- and a later one, `s[done..done + k]`
+pub write-next : (start size : ℕ) (img s : List ℕ) (done k : ℕ) → Segment size 0 (length s - done) k
+    → ringWrite start size (putAt img start (take (done + k - done) (drop done s))) 0 (drop (done + k) s) ≡ ringWrite start size img 0 (drop done s)
+write-next start size img s done k g =
+    let stored = rw (add-zero start) at (write-stored start size img 0 (drop done s) k (rw (length-drop done s) g)) in
+    rw (cut-mid done k s, ← drop-drop k done s) stored
 
 -- ---- zeros
 

@@ -17,14 +17,14 @@ fn read_ring(image: &[u8], start: usize, size: usize, pos: usize, buf: &mut [u8]
     requires { ⌜ (pos < size) × (start + size ≤ length (now image)) ⌝ }
     ensures { λ _. ⌜ now (buf .exit) ≡ ringRead start size (now (image .entry)) pos (length (now (buf .entry))) ⌝ }
 {
-    let mut at = pos;
-    let mut done = 0;
+    let from = start + pos;
+    let k = segment(size, pos, buf.len());
+    wire::put(buf, 0, &image[from..from + k]);
+    let mut done = k;
     while done < buf.len() {
-        let k = segment(size, at, buf.len() - done);
-        let from = start + at;
-        wire::put(buf, done, &image[from..from + k]);
+        let k = segment(size, 0, buf.len() - done);
+        wire::put(buf, done, &image[start..start + k]);
         done += k;
-        at = 0;
     }
 }
 

@@ -17,13 +17,13 @@ fn write_ring(image: &mut [u8], start: usize, size: usize, pos: usize, buf: &[u8
     requires { ⌜ (pos < size) × (start + size ≤ length (now image)) ⌝ }
     ensures { λ _. ⌜ now (image .exit) ≡ ringWrite start size (now (image .entry)) pos (now (buf .entry)) ⌝ }
 {
-    let mut at = pos;
-    let mut done = 0;
+    let k = segment(size, pos, buf.len());
+    wire::put(image, start + pos, &buf[0..k]);
+    let mut done = k;
     while done < buf.len() {
-        let k = segment(size, at, buf.len() - done);
-        wire::put(image, start + at, &buf[done..done + k]);
+        let k = segment(size, 0, buf.len() - done);
+        wire::put(image, start, &buf[done..done + k]);
         done += k;
-        at = 0;
     }
 }
 
