@@ -71,6 +71,7 @@ ringAdd size p d = (p + d) % size
 abbrev pub ringDistance : ℕ → ℕ → ℕ → ℕ
 ringDistance size p q = (q + (size - p % size)) % size
 
+-- the two as calls answer them, on an image of len bytes: a sum has to fit a u64, a distance is between places of the ring
 abbrev pub addPlaces : ℕ → ℕ → ℕ → ℕ → ℕ → Placed
 addPlaces start len file p d =
     demand (hasRing start len file) (Placed.Refused unsound)
@@ -84,6 +85,7 @@ distanceOfPlaces start len file p q =
     (demand (ltb q (file - start)) (Placed.Refused unsound)
     (Placed.At (ringDistance (file - start) p q))))
 
+-- the number and two values of each answer
 abbrev pub placedRefusal : Placed → Refusal
 placedRefusal (Placed.At p) = none
 placedRefusal (Placed.Refused r) = r
@@ -97,6 +99,7 @@ frontLen size p n = min n (size - p % size)
 abbrev pub wrappedLen : ℕ → ℕ → ℕ → ℕ
 wrappedLen size p n = n - frontLen size p n
 
+-- where they lie in the image: the first from this offset on, the second from the ring's start on
 abbrev pub partsOf : ℕ → ℕ → ℕ → ℕ → Parts
 partsOf start size p n =
     record { offset = physPos start size p; «front_len» = frontLen size p n; «wrapped_len» = wrappedLen size p n }
@@ -107,15 +110,10 @@ ringParts start len file p n =
     (demand (leb n (file - start)) (Parted.Refused unsound)
     (Parted.Parts (partsOf start (file - start) p n)))
 
+-- the number and two values of each answer
 abbrev pub partedRefusal : Parted → Refusal
 partedRefusal (Parted.Parts p) = none
 partedRefusal (Parted.Refused r) = r
-
--- of len bytes from `at` on, k lie before the ring's end: all, or as many as there are
-pub record Segment (size at len k : ℕ) : Type 0 where
-  pub inside : at + k ≤ size
-  pub within : k ≤ len
-  pub ends : (at + k ≡ size) ⊎ (k ≡ len)
 
 -- the bytes of each part; none where the parts are refused
 abbrev pub frontBytes : List ℕ → Parted → List ℕ
@@ -125,3 +123,11 @@ frontBytes img (Parted.Refused r) = []
 abbrev pub wrappedBytes : ℕ → List ℕ → Parted → List ℕ
 wrappedBytes start img (Parted.Parts p) = take (p .«wrapped_len») (drop start img)
 wrappedBytes start img (Parted.Refused r) = []
+
+-- ---- what the workers go by
+
+-- of len bytes from `at` on, k lie before the ring's end: all, or as many as there are
+pub record Segment (size at len k : ℕ) : Type 0 where
+  pub inside : at + k ≤ size
+  pub within : k ≤ len
+  pub ends : (at + k ≡ size) ⊎ (k ≡ len)
