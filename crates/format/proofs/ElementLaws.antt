@@ -10,12 +10,11 @@ use lib.ListN.{length, take}
 use lib.Seq.{take-add}
 use Rattle.refusal.specs.declared.Refusal.{Refusal}
 use Rattle.refusal.specs.declared.Verdict.the-variants as Verdict
-use Rattle.refusal.proofs.Laws.{met, granted, keep}
+use Rattle.refusal.proofs.Laws.{met, granted, refused, keep}
 use Rattle.wire.specs.Wire.{Bytes, be, word}
 use Rattle.wire.proofs.Numbers.{bytes-layout, append-both, beVal-be, be-word, bytesAt-part, startsWith-take}
 use Rattle.crc.specs.Crc.{crcOf}
 use Rattle.crc.proofs.Limits.{crcOf-lt}
-use Rattle.header.proofs.Fields.{refused}
 use Rattle.format.specs.Element.{headerStart, headerFields, headerBytes, encodeHeader, elementSpan, parseHeader, footerStart, footerFields, footerBytes, checkFooter}
 use Rattle.format.specs.declared.element.V2ElementHeader.{V2ElementHeader}
 use Rattle.format.specs.declared.element.EncodedHeader.{EncodedHeader}

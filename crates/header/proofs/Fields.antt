@@ -1,15 +1,10 @@
 -- The fields that every file header has are granted exactly where each is below its limit. Assumes nothing.
 use mathlib.Core.Path.{_≡_, refl, sym}
 use Prim.Native.Nat.{ℕ}
-use native.Mathlib.Omega.{arith}
 use borrow.Author.Tests.{lt-ltb, ltb-true}
-use Rattle.refusal.specs.declared.Refusal.{Refusal}
-use Rattle.refusal.specs.declared.Verdict.the-variants.{Granted, Refused}
-use Rattle.refusal.proofs.Laws.{met, granted}
+use Rattle.refusal.specs.declared.Verdict.the-variants.{Granted}
+use Rattle.refusal.proofs.Laws.{met, granted, refused}
 use Rattle.header.specs.Slot.{judgeFields, Below}
-
-pub refused : {r : Refusal} → Refused r ≡ Granted → ⊥
-refused e = let z : _≡_ {A = ℕ} 0 1 = cc in omega arith
 
 module _ (limit countLimit fileLen count first last : ℕ) where
   pub below-granted : Below limit countLimit fileLen count first last → judgeFields limit countLimit fileLen count first last ≡ Granted

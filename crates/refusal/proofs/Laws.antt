@@ -3,9 +3,12 @@
 use mathlib.Core.Path.{_≡_, refl, sym, ap, _∙_}
 use mathlib.Core.Bool.{Bool, true, false, not}
 use Prim.Native.Nat.{ℕ}
+use native.Mathlib.Omega.{arith}
 use lib.Dec.{eqb}
 use borrow.Author.Tests.{le-leb, lt-leb, lt-ltb, le-ltb, eq-eqb, ne-eqb, not-true, not-false}
 use Rattle.refusal.specs.Demand.{demand}
+use Rattle.refusal.specs.declared.Refusal.{Refusal}
+use Rattle.refusal.specs.declared.Verdict.the-variants as Verdict
 
 pub pass : {A : Type 0} (b : Bool) (stops next : A) → b ≡ true → demand b stops next ≡ next
 unfolding demand
@@ -27,6 +30,10 @@ pub granted : {A : Type 0} (b : Bool) (stops next r : A) → (stops ≡ r → �
 unfolding demand
 granted true stops next r n e = (refl, e)
 granted false stops next r n e = absurd (n e)
+
+-- a verdict that refuses does not grant
+pub refused : {r : Refusal} → Verdict.Refused r ≡ Verdict.Granted → ⊥
+refused e = let z : _≡_ {A = ℕ} 0 1 = cc in omega arith
 
 -- what holds of the refusal, and of the rest once the demand is met, holds of the answer
 pub keep : {A : Type 0} (Q : A → Type 0) (b : Bool) (stops next : A) → Q stops → (b ≡ true → Q next) → Q (demand b stops next)

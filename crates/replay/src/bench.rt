@@ -3,7 +3,6 @@
 use crate::answer::Answer;
 use crate::done::Done;
 use crate::on_ring;
-use crate::part::front;
 use crate::setup;
 use crate::state::QueueFile;
 use crate::words::Numbers;
@@ -71,7 +70,10 @@ pub fn work(
     if let BenchOperation::RingRead = operation {
         return Done::on_bench(on_ring::read(image, q.file_len, n, room), q);
     }
-    Done::on_bench(answer(operation, n, front(room, len), image, q.file_len), q)
+    Done::on_bench(
+        answer(operation, n, wire::part(room, 0, len), image, q.file_len),
+        q,
+    )
 }
 
 // The answer to a line that leaves the state as it is and has no output.

@@ -1,7 +1,5 @@
 // The operations on an element's header and footer: `header_encode`, `header_parse`, `footer_encode` and `footer_check`.
 use crate::answer::Answer;
-use crate::part::behind;
-use crate::part::front;
 use crate::words::Numbers;
 use format::ParsedHeader;
 use refusal::Verdict;
@@ -37,8 +35,8 @@ pub fn check_footer(footer: &[u8], seq: u64, payload: &[u8]) -> Answer {
     let verdict = format::validate_v2_footer(
         footer,
         seq,
-        front(payload, half),
-        behind(payload, half),
+        wire::part(payload, 0, half),
+        wire::part(payload, half, payload.len()),
     );
     Answer::of_refusal(verdict.refusal())
 }

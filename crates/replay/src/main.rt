@@ -10,7 +10,6 @@ mod file_headers;
 mod on_ring;
 mod operation;
 mod output;
-mod part;
 mod run;
 mod setup;
 mod slots;

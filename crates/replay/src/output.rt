@@ -4,21 +4,20 @@ use crate::answer::Answer;
 use crate::answer::Output;
 use crate::done::Done;
 use crate::done::Held;
-use crate::part::front;
 use crate::slots::letter;
 use crate::state::QueueFile;
 use refusal::Refusal;
 
 // Writes what waits.
 pub fn flush(buf: &[u8], len: usize) {
-    io::write_all(libc::STDOUT_FILENO, front(buf, len));
+    io::write_all(libc::STDOUT_FILENO, wire::part(buf, 0, len));
 }
 
 // Appends `text`. Where there is no room for it behind what waits, both are written at once.
 fn put(buf: &mut [u8], len: usize, text: &[u8]) -> usize {
     if len <= buf.len() {
         if text.len() <= buf.len() - len {
-            wire::copy_into(&mut buf[len..], text);
+            wire::put(buf, len, text);
             return len + text.len();
         }
     }
@@ -101,7 +100,7 @@ fn put_result(buf: &mut [u8], len: usize, answer: Answer) -> usize {
     let bytes = answer.bytes;
     let start = put_letter(buf, len, answer.letter);
     let end = put_decimals(buf, start, &numbers, answer.number_count);
-    put_hex(buf, end, front(&bytes, answer.byte_count))
+    put_hex(buf, end, wire::part(&bytes, 0, answer.byte_count))
 }
 
 // Appends what was read into `output`, a byte string: `-` where it has no bytes.
@@ -112,7 +111,7 @@ fn put_output(buf: &mut [u8], len: usize, read: Output, output: &[u8]) -> usize 
     if n == 0 {
         return put(buf, len, b"-");
     }
-    put_hex(buf, len, front(output, n))
+    put_hex(buf, len, wire::part(output, 0, n))
 }
 
 // Appends a letter and a space, where there is a letter.

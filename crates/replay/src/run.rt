@@ -9,8 +9,6 @@ use crate::operation::answer;
 use crate::operation::named;
 use crate::operation::shape;
 use crate::output::put_done;
-use crate::part::behind;
-use crate::part::front;
 use crate::setup;
 use crate::words::Lengths;
 use crate::words::ReadNumbers;
@@ -70,7 +68,7 @@ fn is_silent(line: &[u8]) -> bool {
 // The CRC-32 of the image up to a state's real length, or 0 where no state is shown.
 fn image_sum(image: &[u8], shown: Held) -> u32 {
     match shown {
-        Held::State(q) => crc::crc32(front(image, q.real_len as usize)),
+        Held::State(q) => crc::crc32(wire::part(image, 0, q.real_len as usize)),
         Held::Nothing => 0,
     }
 }
@@ -114,7 +112,12 @@ fn answer_line(line: &[u8], room: &mut [u8]) -> Answer {
     let Lengths::Of(n, m) = read_strings(line, shape(operation), room) else {
         return Answer::bad();
     };
-    answer_strings(line, operation, front(room, n), front(behind(room, n), m))
+    answer_strings(
+        line,
+        operation,
+        wire::part(room, 0, n),
+        wire::part(room, n, m),
+    )
 }
 
 // Reads the numbers of a line whose byte strings are a and b, and answers the line.

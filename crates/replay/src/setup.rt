@@ -93,9 +93,8 @@ pub fn extend(image: &mut [u8], n: u64, q: QueueFile) -> Done {
     if len > image.len() - start {
         return Done::bad(Held::State(q));
     }
-    let end = start + len;
-    wire::fill(&mut image[start..end], 0xa5);
+    wire::fill_at(image, start, len, 0xa5);
     let mut after = q;
-    after.real_len = end as u64;
+    after.real_len = (start + len) as u64;
     Done::on_bench(Answer::of_refusal(Refusal::NONE), after)
 }

@@ -7,7 +7,8 @@ use native.Mathlib.Omega.{arith}
 use native.Mathlib.Decide.{decLe}
 use mathlib.Core.Bool.{Bool, true, false, not, and-eq-true-iff}
 use lib.Dec.{ltb, leb}
-use borrow.Author.Tests.{ltb-true, leb-true, lt-ltb, le-leb, not-false}
+use borrow.Author.Tests.{ltb-true, leb-true, lt-ltb, le-leb}
+use Rattle.refusal.proofs.Laws.{flag-yes}
 use Rattle.ring.specs.Ring.{hasRing, ringDistance}
 
 -- ---- which rings there are
@@ -25,7 +26,7 @@ there-ring start len file e =
 
 -- the same, of the answer of `has_ring` where it is not refused
 pub ring-known : (start len file : ℕ) (t : Bool) → t ≡ hasRing start len file → not t ≡ false → (start < file) × (file ≤ len)
-ring-known start len file t e n = there-ring start len file (sym e ∙ not-false t n)
+ring-known start len file t e n = there-ring start len file (flag-yes t _ e n)
 
 -- ---- when places are the same
 

@@ -2,7 +2,7 @@
 use mathlib.Core.Path.{_≡_, refl, sym, ap, _∙_}
 use mathlib.Core.List.{List, _∷_, _++_}
 use Prim.Native.Nat.{ℕ, zero, suc, _+_, _%_, _≤_, _<_}
-use native.Mathlib.Nat.{add-zero, add-suc, suc-add, zero-add, mod-lt, mod-eq-of-lt, mod-mod, add-mod-right, not-suc-le-zero, le-of-suc-le-suc}
+use native.Mathlib.Nat.{add-zero, add-suc, suc-add, zero-add, mod-lt, mod-mod, add-mod-right, not-suc-le-zero, le-of-suc-le-suc}
 use native.Mathlib.Numerals.{add-one}
 use native.Mathlib.Omega.{arith}
 use lib.ListN.{length, getD, drop}
@@ -10,7 +10,7 @@ use lib.Seq.{ext-getD, getD-drop}
 use Rattle.wire.specs.Wire.{Bytes, bytesAt, putAt}
 use Rattle.wire.proofs.Stores.{putAt-before, putAt-after}
 use Rattle.ring.specs.Ring.{ringRead, physPos}
-use Rattle.ring.proofs.Places.{add-same}
+use Rattle.ring.proofs.Places.{add-same, turn-low}
 
 pub length-read : (start size : ℕ) (img : List ℕ) (p n : ℕ) → length (ringRead start size img p n) ≡ n
 unfolding ringRead
@@ -74,7 +74,7 @@ pub read-straight : (start size : ℕ) (img : List ℕ) (p n : ℕ) → p + n �
 unfolding ringRead
 read-straight start size img p zero h = refl
 read-straight start size img p (suc n) h =
-    rw (mod-eq-of-lt {n = p} {m = size} (omega arith), add-one, ← add-suc start p)
+    rw (turn-low size p (omega arith), add-one, ← add-suc start p)
     (ap (λ (l : List ℕ). getD img (start + p) 0 ∷ l) (read-straight start size img (suc p) n (omega arith)))
 
 -- ---- what a read looks at

@@ -12,7 +12,7 @@ use lib.Seq.{drop-drop, ext-getD, length-take-le}
 use Rattle.wire.specs.Wire.{bytesAt, putAt}
 use Rattle.refusal.specs.declared.Refusal.{Refusal}
 use Rattle.refusal.proofs.Laws.{granted}
-use Rattle.wire.proofs.Numbers.{bytesAt-part}
+use Rattle.wire.proofs.Numbers.{cut-mid, bytesAt-part}
 use Rattle.wire.proofs.Stores.{putAt-append}
 use borrow.Author.Tests.{leb-true}
 use Rattle.ring.specs.Ring.{ringRead, ringWrite, ringErase, ringDistance, Segment, physPos, frontLen, wrappedLen, partsOf, ringParts, frontBytes, wrappedBytes}
@@ -21,10 +21,6 @@ use Rattle.ring.specs.declared.parts.Parted.the-variants as Parted
 use Rattle.ring.proofs.Places.{there-ring, distance-lt, distance-there}
 use Rattle.ring.proofs.Reading.{length-read, getD-read, read-same, read-mod, read-none, read-append, read-straight}
 use Rattle.ring.proofs.Writing.{write-append, write-same, write-none, write-straight, write-long, write-ext, getD-write}
-
--- a part `s[a..a + k]` is the k bytes from a on
-pub cut-mid : (a k : ℕ) (s : List ℕ) → take (a + k - a) (drop a s) ≡ take k (drop a s)
-cut-mid a k s = let e : a + k - a ≡ k = omega arith in rw e
 
 -- there is a byte before the ring's end
 pub segment-some : (size at n k : ℕ) → Segment size at n k → at < size → 0 < n → 0 < k

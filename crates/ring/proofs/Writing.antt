@@ -4,7 +4,7 @@ use mathlib.Core.Path.{_≡_, refl, sym, ap, _∙_}
 use mathlib.Core.Logic.{_≢_}
 use mathlib.Core.List.{List, [], _∷_, _++_}
 use Prim.Native.Nat.{ℕ, zero, suc, _+_, _-_, _%_, _≤_, _<_, suc-le-suc}
-use native.Mathlib.Nat.{add-zero, add-suc, suc-add, mod-lt, mod-eq-of-lt, mod-mod}
+use native.Mathlib.Nat.{add-zero, add-suc, suc-add, mod-lt, mod-mod}
 use native.Mathlib.Decide.{decLt}
 use native.Mathlib.Omega.{arith}
 use lib.ListN.{length, getD, set, take, drop, length-set}
@@ -12,7 +12,7 @@ use lib.Seq.{ext-getD, getD-set-same, getD-set-other, take-set-le, drop-set-lt, 
 use Rattle.wire.specs.Wire.{Bytes, putAt}
 use Rattle.wire.proofs.Stores.{putAt-bytes}
 use Rattle.ring.specs.Ring.{ringRead, ringWrite, ringDistance, physPos}
-use Rattle.ring.proofs.Places.{suc-same, far, apart, around, distance-lt, distance-there}
+use Rattle.ring.proofs.Places.{suc-same, turn-low, far, apart, around, distance-lt, distance-there}
 use Rattle.ring.proofs.Reading.{length-read, getD-read, read-ext, read-append}
 
 -- ---- lengths, bytes
@@ -63,7 +63,7 @@ pub write-straight : (start size : ℕ) (img : List ℕ) (p : ℕ) (s : List ℕ
 unfolding ringWrite
 write-straight start size img p [] h = refl
 write-straight start size img p (b ∷ s) h =
-    rw (mod-eq-of-lt {n = p} {m = size} (omega arith), ← add-suc start p)
+    rw (turn-low size p (omega arith), ← add-suc start p)
     (write-straight start size (set img (start + p) b) (suc p) s (omega arith))
 
 -- ---- what a write leaves as it was
@@ -165,7 +165,7 @@ getD-ring : (start size : ℕ) (img : List ℕ) (p j : ℕ) → j < size
     → getD img (start + j) 0 ≡ getD (ringRead start size img p size) (ringDistance size p j) 0
 getD-ring start size img p j h =
     sym (getD-read start size img p size (ringDistance size p j) (distance-lt size p j (omega arith))
-    ∙ ap (λ (x : ℕ). getD img (start + x) 0) (distance-there size p j (omega arith) ∙ mod-eq-of-lt h))
+    ∙ ap (λ (x : ℕ). getD img (start + x) 0) (distance-there size p j (omega arith) ∙ turn-low size j h))
 
 -- they are as long, have the same bytes before and past the ring, and the same turn of it from p on
 pub image-ext : (start size : ℕ) (img img′ : List ℕ) (p : ℕ) → length img ≡ length img′ → take start img ≡ take start img′

@@ -67,7 +67,7 @@ pub fn front_part(image: &[u8], file_len: u64, logical_pos: u64, len: u64) -> &[
     let Parted::Parts(p) = split(image.len() as u64, file_len, logical_pos, len) else {
         return &image[0..0];
     };
-    &image[p.offset as usize..(p.offset + p.front_len) as usize]
+    wire::part(image, p.offset as usize, p.front_len as usize)
 }
 
 // The second of these parts: no bytes where the interval does not reach the ring's end.
@@ -77,5 +77,5 @@ pub fn wrapped_part(image: &[u8], file_len: u64, logical_pos: u64, len: u64) -> 
     let Parted::Parts(p) = split(image.len() as u64, file_len, logical_pos, len) else {
         return &image[0..0];
     };
-    &image[V2_DATA_START as usize..(V2_DATA_START + p.wrapped_len) as usize]
+    wire::part(image, V2_DATA_START as usize, p.wrapped_len as usize)
 }

@@ -9,9 +9,7 @@ use crate::place::sum_within;
 use header::V2_DATA_START;
 use refusal::Refusal;
 use refusal::Verdict;
-
-// How many bytes are held at a time.
-const HELD: usize = 16384;
+use wire::HELD;
 
 // Copies len bytes of the image from `from` on to `to`, which lies behind them, by way of bytes that are held: two parts of one image
 // are not lent at once.

@@ -3,7 +3,7 @@
 use mathlib.Core.Path.{_≡_, refl, sym, ap, _∙_}
 use mathlib.Core.Bool.{true, and-eq-true-iff}
 use mathlib.Core.List.{List, [], _∷_, _++_, append-assoc, append-nil}
-use Prim.Native.Nat.{ℕ, zero, suc, _+_, _*_, _/_, _%_, _^_, _≤_, _<_}
+use Prim.Native.Nat.{ℕ, zero, suc, _+_, _*_, _/_, _%_, _^_, _-_, _≤_, _<_}
 use native.Mathlib.Nat.{add-zero, add-suc, zero-add, suc-add, div-add-mod', pow-suc}
 use native.Mathlib.Numerals.{add-one}
 use native.Mathlib.Omega.{arith}
@@ -103,6 +103,10 @@ word-lt w s at h =
     rw (zero-add, length-bytesAt) at k
 
 -- ---- parts
+
+-- a part `s[a..a + k]` is the k bytes from a on
+pub cut-mid : (a k : ℕ) (s : List ℕ) → take (a + k - a) (drop a s) ≡ take k (drop a s)
+cut-mid a k s = let e : a + k - a ≡ k = omega arith in rw e
 
 -- a byte and the bytes after it
 pub bytesAt-cons : (w : ℕ) (s : List ℕ) (at i b : ℕ) (bs : List ℕ) → b ≡ getD s (at + i) 0 → bs ≡ bytesAt w s (at + suc i) → b ∷ bs ≡ bytesAt (suc w) s (at + i)

@@ -6,7 +6,7 @@ ghost use mathlib.Core.Path.{_≡_};
 ghost use mathlib.Core.List.{[], _∷_};
 ghost use mathlib.Core.Logic.{_⊎_};
 ghost use Prim.Native.Nat.{_+_, _≤_};
-ghost use lib.ListN.{length, getD, replicate};
+ghost use lib.ListN.{length, getD, take, drop, replicate};
 ghost use Rattle.wire.specs.Wire.{be, beVal, word, putAt, startsWith};
 
 // The bytes of a number, the highest first.
@@ -169,6 +169,17 @@ pub fn starts_with(s: &[u8], p: &[u8]) -> bool
     true
 }
 
+// The n bytes of s from `at` on, as far as s goes.
+pub fn part(s: &[u8], at: usize, n: usize) -> &[u8]
+    ensures { λ r. ⌜ now r ≡ take n (drop at (now (s .entry))) ⌝ }
+{
+    if s.len() <= at {
+        return &s[0..0];
+    }
+    let end = at + smaller(n, s.len() - at);
+    &s[at..end]
+}
+
 fn smaller(a: usize, b: usize) -> usize
     ensures { λ r. ⌜ (r ≤ a) × (r ≤ b) × ((a ≤ r) ⊎ (b ≤ r)) ⌝ }
 {
@@ -187,13 +198,16 @@ fn copy_bytes(out: &mut [u8], src: &[u8])
     }
 }
 
+// How many bytes of a copy are held at a time.
+pub const HELD: usize = 16384;
+
 // Stores src in out, which is as long, by way of bytes that are nobody else's. Of two slices the compiler does not know that
 // they lie apart, and it makes a loop of their copy; of these two copies it makes one call of memmove, and holds nothing.
 fn carry(out: &mut [u8], src: &[u8])
     requires { ⌜ (length (now out) ≡ length (now src)) × (length (now src) ≤ 16384) ⌝ }
     ensures { λ _. ⌜ now (out .exit) ≡ now (src .entry) ⌝ }
 {
-    let mut held = [0u8; 16384];
+    let mut held = [0u8; HELD];
     copy_bytes(&mut held, src);
     copy_bytes(out, &held);
 }
@@ -204,8 +218,8 @@ pub fn copy_into(out: &mut [u8], src: &[u8])
 {
     let n = smaller(out.len(), src.len());
     let mut done: usize = 0;
-    while 16384 < n - done {
-        let next = done + 16384;
+    while HELD < n - done {
+        let next = done + HELD;
         carry(&mut out[done..next], &src[done..next]);
         done = next;
     }

@@ -1,9 +1,8 @@
--- `ring::parts::front_part` meets its contract: the parts that are granted lie in the image. Assumes nothing.
+-- `ring::parts::front_part` meets its contract: it lends the part that `split` answers. Assumes nothing.
 use mathlib.Core.Path.{sym, ap, _∙_}
 use denote.Ref.{now}
 use borrow.Author.Needs.{needs}
 use Rattle.ring.specs.Ring.{frontBytes}
-use Rattle.ring.proofs.Segments.{cut-mid, split-within}
 use Rattle.ring.proofs.parts.front_part.Statement.{statement}
 use Rattle.ring.proofs.parts.front_part.Tie as tie
 
@@ -28,29 +27,15 @@ part-result-end c = search needs
 returns : tie.Need-returns
 returns c = rw (sym (c .before .before .before .split .ensures) ∙ c .before .enum-told .given .1)
 
-add-result : tie.Need-add-result
-add-result c =
-    let l = split-within _ _ _ _ _ _ (sym (c .before .before .before .before .split .ensures) ∙ c .before .before .p .given .1) in
-    search needs
-
-sub-result-2 : tie.Need-sub-result-2
-sub-result-2 c = search needs
-
-part-result-start-2 : tie.Need-part-result-start-2
-part-result-start-2 c = search needs
-
-part-result-end-2 : tie.Need-part-result-end-2
-part-result-end-2 c =
-    let l = split-within _ _ _ _ _ _ (sym (c .before .before .before .before .split .ensures) ∙ c .before .before .p .given .1) in
-    search needs
+part-requires : tie.Need-part-requires
+part-requires c κs = search needs
 
 returns-2 : tie.Need-returns-2
 returns-2 c =
-    let found = c .before .before .before in
+    let found = c .before .before in
     let split = found .before .before in
     let a = split .before .before .args in
-    let x = found .p .given .0 .0 in
-    cut-mid (x .offset) (x .«front_len») (now (a .image)) ∙ ap (frontBytes (now (a .image))) (sym (found .p .given .1) ∙ split .split .ensures)
+    c .part .ensures ∙ ap (frontBytes (now (a .image))) (sym (found .p .given .1) ∙ split .split .ensures)
 
 pub front-part-spec : {M : Type 1} → statement M
 front-part-spec =
@@ -63,8 +48,5 @@ front-part-spec =
     part-result-start
     part-result-end
     returns
-    add-result
-    sub-result-2
-    part-result-start-2
-    part-result-end-2
+    part-requires
     returns-2)

@@ -9,9 +9,8 @@ use lib.Seq.{sets-eq, take-at, length-take-le}
 use denote.Ref.{now}
 use borrow.Author.Needs.{needs}
 use Rattle.wire.specs.Wire.{putAt}
-use Rattle.wire.proofs.Numbers.{bytesAt-part}
+use Rattle.wire.proofs.Numbers.{cut-mid, bytesAt-part}
 use Rattle.ring.specs.Ring.{relocated}
-use Rattle.ring.proofs.Segments.{cut-mid}
 use Rattle.ring.proofs.relocation.relocate_part.Statement.{statement}
 use Rattle.ring.proofs.relocation.relocate_part.Tie as tie
 
