@@ -1,4 +1,5 @@
-// Bytes and numbers: big-endian numbers read and stored, byte strings compared and stored, parts copied and filled.
+// Bytes and numbers: big-endian numbers read and stored, byte strings compared and stored, parts lent, copied
+// and filled.
 //
 // Each function accepts every place. A byte read past the end counts as 0, and a byte stored past the end goes nowhere:
 // so says the definition that each contract cites, in specs/Wire.antt.
