@@ -71,8 +71,9 @@ module _ (seq prev len capacity : ℕ) where
 
 -- ---- the header: encode after parse
 
-differ : {r : Refusal} {h : V2ElementHeader} → Refused r ≡ Header h → ⊥
-differ e = let z : _≡_ {A = ℕ} 0 1 = cc in omega arith
+-- a refusal is not a header
+pub no-header : {r : Refusal} {h : V2ElementHeader} → Refused r ≡ Header h → ⊥
+no-header e = let z : _≡_ {A = ℕ} 0 1 = cc in omega arith
 
 -- what bytes that parse to h have
 pub record Parsed (s : List ℕ) (capacity : ℕ) (h : V2ElementHeader) : Type 0 where
@@ -88,12 +89,12 @@ pub record Parsed (s : List ℕ) (capacity : ℕ) (h : V2ElementHeader) : Type 0
 
 pub parsed : (s : List ℕ) (capacity : ℕ) (h : V2ElementHeader) → parseHeader s capacity ≡ Header h → Parsed s capacity h
 parsed s capacity h e =
-    let g1 = granted _ _ _ _ differ e in
-    let g2 = granted _ _ _ _ differ (g1 .1) in
-    let g3 = granted _ _ _ _ differ (g2 .1) in
-    let g4 = granted _ _ _ _ differ (g3 .1) in
-    let g5 = granted _ _ _ _ differ (g4 .1) in
-    let g6 = granted _ _ _ _ differ (g5 .1) in
+    let g1 = granted _ _ _ _ no-header e in
+    let g2 = granted _ _ _ _ no-header (g1 .1) in
+    let g3 = granted _ _ _ _ no-header (g2 .1) in
+    let g4 = granted _ _ _ _ no-header (g3 .1) in
+    let g5 = granted _ _ _ _ no-header (g4 .1) in
+    let g6 = granted _ _ _ _ no-header (g5 .1) in
     let i : record { «payload_len» = word 4 s 20; seq = word 8 s 4; «prev_pos» = word 8 s 12 } ≡ h = cc (g6 .1) in
     let n : word 4 s 20 ≡ h .«payload_len» = ap (λ (x : V2ElementHeader). x .«payload_len») i in
     let q : word 8 s 4 ≡ h .seq = ap (λ (x : V2ElementHeader). x .seq) i in

@@ -6,6 +6,9 @@ ghost use Rattle.format.specs.Element.{headerBytes, encodeHeader, judgeH
 use refusal::Refusal;
 use refusal::Verdict;
 
+// The bytes of an element before its payload.
+pub const V2_ELEM_HDR_LEN: u64 = 28;
+
 // The bytes of an element beside its payload: header and footer.
 pub const V2_ELEM_OVERHEAD: u64 = 44;
 

@@ -7,6 +7,7 @@ mod state;
 
 pub use element::EncodedHeader;
 pub use element::ParsedHeader;
+pub use element::V2_ELEM_HDR_LEN;
 pub use element::V2_ELEM_OVERHEAD;
 pub use element::V2ElementHeader;
 pub use element::encode_v2_element_header;

@@ -2,6 +2,7 @@
 ghost use mathlib.Core.Path.{_≡_};
 ghost use Prim.Native.Nat.{_≤_};
 ghost use Rattle.format.specs.FormatState.{dataStart, elemHdrLen, overhead, elemSpan, spanRefusal, nextSeq, withNextSeq};
+use crate::element::V2_ELEM_HDR_LEN;
 use crate::element::V2_ELEM_OVERHEAD;
 use header::HeaderSlot;
 use header::V2_DATA_START;
@@ -56,7 +57,7 @@ impl FormatState {
         match self {
             FormatState::Legacy => 4,
             FormatState::V1 => 4,
-            FormatState::V2(_) => 28,
+            FormatState::V2(_) => V2_ELEM_HDR_LEN,
         }
     }
 

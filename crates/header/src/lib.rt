@@ -8,6 +8,9 @@ use refusal::Verdict;
 // Where the ring of elements starts in the file.
 pub const V2_DATA_START: u64 = 8192;
 
+// The bytes of a slot.
+pub const V2_SLOT_LEN: u64 = 56;
+
 pub enum HeaderSlot {
     A,
     B,

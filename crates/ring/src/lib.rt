@@ -17,6 +17,7 @@ pub use parts::wrapped_part;
 pub use place::Placed;
 pub use place::add;
 pub use place::distance;
+pub use place::has_ring;
 pub use read::read_at;
 pub use relocation::relocate;
 pub use write::erase_at;

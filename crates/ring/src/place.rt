@@ -24,7 +24,7 @@ impl Placed {
 }
 
 // Whether a ring that starts there lies in a file of that length, and the file in the image.
-pub(crate) fn has_ring(start: u64, image_len: u64, file_len: u64) -> bool
+pub fn has_ring(start: u64, image_len: u64, file_len: u64) -> bool
     ensures { λ r. ⌜ r ≡ hasRing start «image_len» «file_len» ⌝ }
 {
     if file_len <= start {
