@@ -1,0 +1,25 @@
+-- What a header that the ring has is known to be, for those who go on by it. Assumes nothing.
+use mathlib.Core.Path.{_≡_}
+use mathlib.Core.List.{List}
+use Prim.Native.Nat.{ℕ, _≤_}
+use Rattle.refusal.proofs.Laws.{granted}
+use Rattle.ring.specs.Ring.{ringRead}
+use Rattle.format.specs.Element.{elementSpan}
+use Rattle.format.specs.declared.element.V2ElementHeader.{V2ElementHeader}
+use Rattle.format.specs.declared.element.ParsedHeader.{ParsedHeader}
+use Rattle.format.specs.declared.element.ParsedHeader.the-variants.{Header, Refused}
+use Rattle.format.proofs.ElementLaws.{no-header, parsed}
+use Rattle.queue.specs.Element.{capacity, headerAt, inSequence, headerInSequence}
+
+-- a valid header's element fits the ring
+pub header-fits : (img : List ℕ) (file p : ℕ) (h : V2ElementHeader) → headerAt img file p ≡ Header h → elementSpan (h .«payload_len») ≤ capacity file
+unfolding headerAt
+header-fits img file p h e = parsed (ringRead 8192 (capacity file) img p 28) (capacity file) h e .fits
+
+-- a header that is in sequence is the header
+sequence-header : (seq : ℕ) (d : ParsedHeader) (h : V2ElementHeader) → inSequence seq d ≡ Header h → d ≡ Header h
+sequence-header seq (Refused r) h e = absurd (no-header e)
+sequence-header seq (Header k) h e = granted _ _ _ _ no-header e .1
+
+pub sequence-fits : (img : List ℕ) (file p seq : ℕ) (h : V2ElementHeader) → headerInSequence img file p seq ≡ Header h → elementSpan (h .«payload_len») ≤ capacity file
+sequence-fits img file p seq h e = header-fits img file p h (sequence-header seq (headerAt img file p) h e)

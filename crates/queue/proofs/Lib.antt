@@ -1,0 +1,12 @@
+pub mod Tests
+pub mod Variants
+pub mod Steps
+pub mod Sound
+pub mod PlaceLaws
+pub mod Headers
+pub mod ElementLaws
+pub mod RecoverLaws
+pub mod OpenLaws
+pub mod Trail
+pub mod PeekLaws
+pub mod IterLaws
