@@ -3,7 +3,7 @@
 use std::io::{self, BufWriter, Read, Write};
 
 use crate::language::{self, SCRIPT_LIMIT};
-use crate::operations::{checksum, elements, file_headers, ring, setup, slots};
+use crate::operations::{checksum, elements, file_headers, opening, reading, ring, setup, slots};
 use crate::run::Run;
 
 /// Reads a script up to the limit and prints one line for each operation.
@@ -40,6 +40,18 @@ fn operation(run: &mut Run, words: &[&[u8]]) -> Option<String> {
         [b"state", fields @ ..] => setup::state(run, fields),
         [b"poke", offset, bytes] => setup::poke(run.queue()?, offset, bytes),
         [b"extend", len] => setup::extend(run.queue()?, len),
+        [b"overwrite", flag] => setup::overwrite(run.queue()?, flag),
+        [b"capacity", capacity] => setup::capacity(run.queue()?, capacity),
+        [b"image", bytes, capacity, overwrite] => opening::image(run, bytes, capacity, overwrite),
+        [b"reopen", capacity, overwrite] => opening::reopen(run.queue()?, capacity, overwrite),
+        [b"strict", capacity, overwrite] => opening::strict(run.queue()?, capacity, overwrite),
+        [b"recover", place, seq, n] => opening::recover(run.queue()?, place, seq, n),
+        [b"used"] => reading::used(run.queue()?),
+        [b"peek"] => reading::peek(run.queue()?),
+        [b"peek_into", len] => reading::peek_into(run.queue()?, len),
+        [b"peek_place"] | [b"peek_part"] => reading::peek_in_place(run.queue()?),
+        [b"iterate"] => reading::iterate(run.queue()?),
+        [b"step", index, place, len] => reading::step(run.queue()?, index, place, len),
         [b"ring_add", place, distance] => ring::ring_add(run.queue()?, place, distance),
         [b"ring_distance", from, to] => ring::ring_distance(run.queue()?, from, to),
         [b"ring_read", place, len] => ring::ring_read(run.queue()?, place, len),

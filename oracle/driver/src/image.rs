@@ -1,5 +1,5 @@
 //! The image that the lines of a script share: a buffer that is kept in a nameless file, where the
-//! upstream ring finds it.
+//! upstream code finds it.
 
 use std::fs::File;
 use std::io;
@@ -16,12 +16,14 @@ pub const IMAGE_LEN: u64 = 262_144;
 
 pub struct Image {
     queue: QueueFileInner,
+    /// The file that is opened: as long as the real length, with the image's bytes.
+    opened: File,
 }
 
 impl Image {
     /// An image of zeros.
     pub fn new() -> Self {
-        let image = Self { queue: scratch::queue() };
+        let image = Self { queue: scratch::queue(), opened: scratch::nameless_file() };
         image.with_file(|file| file.set_len(IMAGE_LEN));
         image
     }
@@ -34,16 +36,43 @@ impl Image {
         DataRingMut::new(&mut self.queue, V2_DATA_START)
     }
 
+    /// The whole buffer in the upstream code's hands.
+    pub fn held(&self, file_len: u64) -> QueueFileInner {
+        let file = self.queue.file_ref().and_then(File::try_clone);
+        scratch::held(file.expect("the scratch file serves"), file_len)
+    }
+
+    /// The image up to its real length, which is within the buffer, in a file that ends there.
+    pub fn held_to_be_opened(&self, real_len: u64) -> QueueFileInner {
+        let bytes = self.bytes(real_len);
+        let laid = self.opened.set_len(real_len);
+        laid.and_then(|()| self.opened.write_all_at(&bytes, 0)).expect("the scratch file serves");
+        scratch::held(self.opened.try_clone().expect("the scratch file serves"), real_len)
+    }
+
     /// Changes these bytes, which end within the image.
     pub fn store(&mut self, offset: u64, bytes: &[u8]) {
         self.with_file(|file| file.write_all_at(bytes, offset));
     }
 
+    /// These bytes, which fit, and zeros behind them.
+    pub fn replace(&mut self, bytes: &[u8]) {
+        self.with_file(|file| {
+            file.set_len(0)?;
+            file.set_len(IMAGE_LEN)?;
+            file.write_all_at(bytes, 0)
+        });
+    }
+
     /// The CRC-32 of the image up to the real length or its own end.
     pub fn crc(&self, real_len: u64) -> u32 {
-        let mut bytes = vec![0; real_len.min(IMAGE_LEN) as usize];
+        header::crc32(&self.bytes(real_len.min(IMAGE_LEN)))
+    }
+
+    fn bytes(&self, len: u64) -> Vec<u8> {
+        let mut bytes = vec![0; len as usize];
         self.with_file(|file| file.read_exact_at(&mut bytes, 0));
-        header::crc32(&bytes)
+        bytes
     }
 
     fn with_file(&self, act: impl FnOnce(&File) -> io::Result<()>) {
@@ -75,6 +104,29 @@ mod tests {
         let (mut one, other) = (Image::new(), Image::new());
         one.store(0, b"1");
         assert_ne!(one.crc(1), other.crc(1));
+    }
+
+    #[test]
+    fn a_replaced_image_is_zero_behind_its_bytes() {
+        let mut image = Image::new();
+        image.store(IMAGE_LEN - 1, b"1");
+        image.replace(b"123456789");
+        assert_eq!(image.crc(9), header::crc32(b"123456789"));
+        assert_eq!(image.bytes(IMAGE_LEN)[9..], vec![0; IMAGE_LEN as usize - 9]);
+    }
+
+    #[test]
+    fn what_is_opened_ends_at_the_real_length() {
+        let mut image = Image::new();
+        image.store(0, b"123456789");
+        for real_len in [9, 5, 7, 0] {
+            let held = image.held_to_be_opened(real_len);
+            let mut read = vec![0; real_len as usize];
+            held.read_exact_at(0, &mut read).unwrap();
+            assert_eq!(read, b"123456789"[..real_len as usize]);
+            assert!(held.read_exact_at(real_len, &mut [0]).is_err());
+        }
+        assert_eq!(image.crc(9), header::crc32(b"123456789"));
     }
 
     #[test]

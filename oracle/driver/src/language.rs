@@ -88,9 +88,9 @@ pub fn accepted(answer: impl Display) -> String {
     format!("0 0 0 : {answer}")
 }
 
-/// The line of an operation that refuses nothing, with the state after it.
-pub fn accepted_with_state(state: impl Display, answer: impl Display) -> String {
-    format!("0 0 0 {state} : {answer}")
+/// The line of an operation with the state after it.
+pub fn line_with_state(refusal: Refusal, state: impl Display, answer: impl Display) -> String {
+    format!("{refusal} {state} : {answer}")
 }
 
 /// The line of an operation that refuses and has no state to show: no answer stands behind it.
@@ -181,8 +181,9 @@ mod tests {
 
     #[test]
     fn a_line_without_an_answer_ends_behind_the_colon() {
-        assert_eq!(refused(Refusal { number: 22, first: 3, second: 0 }), "22 3 0 : ");
+        let refusal = Refusal { number: 22, first: 3, second: 0 };
+        assert_eq!(refused(refusal), "22 3 0 : ");
         assert_eq!(accepted(""), "0 0 0 : ");
-        assert_eq!(accepted_with_state("A 1", ""), "0 0 0 A 1 : ");
+        assert_eq!(line_with_state(refusal, "A 1", ""), "22 3 0 A 1 : ");
     }
 }

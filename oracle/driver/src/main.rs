@@ -1,5 +1,6 @@
 //! The Rust side of the comparison: answers scripts of the replay language by running the upstream
-//! code, writes the scripts, compares two files of answers, and counts the refusals in answers.
+//! code, writes the scripts and some images, compares two files of answers, counts the refusals in
+//! answers, and lists the images that were opened.
 
 mod answer;
 mod compare;
@@ -19,7 +20,8 @@ use std::path::Path;
 use std::process::ExitCode;
 use std::{env, fs, io};
 
-const USAGE: &str = "answer | scripts FAMILY SEED FOLDER | compare PORT RUST | refusals";
+const USAGE: &str = "answer | scripts FAMILY SEED FOLDER | compare PORT RUST | refusals | \
+                     images SCRIPT ANSWERS | samples FOLDER";
 
 fn main() -> ExitCode {
     let arguments: Vec<String> = env::args().skip(1).collect();
@@ -30,6 +32,8 @@ fn main() -> ExitCode {
         ["scripts", family, seed, folder] => write_scripts(family, seed, Path::new(folder)),
         ["compare", port, rust] => compare_files(Path::new(port), Path::new(rust)),
         ["refusals"] => count_refusals(io::stdin()),
+        ["images", script, answers] => list_images(Path::new(script), Path::new(answers)),
+        ["samples", folder] => write_samples(Path::new(folder)),
         _ => Err(io::Error::new(io::ErrorKind::InvalidInput, USAGE)),
     };
 
@@ -72,5 +76,21 @@ fn count_refusals(mut answers: impl Read) -> io::Result<bool> {
     let mut text = Vec::new();
     answers.read_to_end(&mut text)?;
     println!("{}", tally::tally(&text));
+    Ok(true)
+}
+
+/// Says the length and the CRC-32 of each image that the script had opened, a line each.
+fn list_images(script: &Path, answers: &Path) -> io::Result<bool> {
+    for image in tally::opened_images(&fs::read(script)?, &fs::read(answers)?) {
+        println!("{image}");
+    }
+    Ok(true)
+}
+
+fn write_samples(folder: &Path) -> io::Result<bool> {
+    fs::create_dir_all(folder)?;
+    for (name, image) in scripts::sample_images() {
+        fs::write(folder.join(format!("{name}.qf")), image)?;
+    }
     Ok(true)
 }

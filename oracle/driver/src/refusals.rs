@@ -12,11 +12,14 @@ pub struct Refusal {
     pub second: u64,
 }
 
+/// Nothing refused.
+pub const NONE: Refusal = Refusal { number: 0, first: 0, second: 0 };
+
 /// The upstream slot parser says only that there is no slot, and has no error for it.
 pub const NOT_A_SLOT: Refusal = Refusal { number: 31, first: 0, second: 0 };
 
-/// How the text of a `CorruptedFile` begins, up to the first number in it, with the refusal's
-/// number and its first value. A text is known by its beginning, so none begins another.
+/// How the text of an error begins, up to the first number in it, with the refusal's number and its
+/// first value. A text is known by its beginning, so none begins another.
 const TEXTS: &[(&str, u64, u64)] = &[
     ("v2 element header magic mismatch at logical pos ", 2, 0),
     ("v2 element payload_len ", 3, 0),
@@ -34,6 +37,10 @@ const TEXTS: &[(&str, u64, u64)] = &[
     ("v2 non-empty queue has zero pointer", 15, 0),
     ("v2 first_position ", 16, 0),
     ("v2 last_position ", 16, 0),
+    ("v2 recovery: walked ", 18, 0),
+    ("v2 recovery: prev_pos ", 19, 0),
+    ("v2 recovery: could not walk expected live element count", 20, 0),
+    ("v2 recovery: tail seq ", 21, 0),
     // The same field has one beginning in every file header and in the slot.
     ("file length in ", 22, 1),
     ("element count in ", 22, 2),
@@ -45,7 +52,12 @@ const TEXTS: &[(&str, u64, u64)] = &[
 /// guessed number would be compared as if the Rust had said it.
 pub fn refusal(error: &Error) -> Refusal {
     match error {
-        Error::CorruptedFile { msg } => by_text(msg),
+        Error::CorruptedFile { msg } | Error::InvalidValue { msg } | Error::OutOfBounds { msg } => {
+            by_text(msg)
+        }
+        Error::SequenceMismatch { expected, found } => {
+            Refusal { number: 17, first: *expected, second: *found }
+        }
         Error::UnsupportedVersion { detected, .. } => {
             Refusal { number: 23, first: u64::from(*detected), second: 0 }
         }
@@ -88,6 +100,16 @@ mod tests {
         assert_eq!(refusal(&field).to_string(), "22 4 0");
         let version = Error::UnsupportedVersion { detected: 7, supported: 1 };
         assert_eq!(refusal(&version).to_string(), "23 7 0");
+    }
+
+    #[test]
+    fn a_sequence_and_what_recovery_met_are_told() {
+        let sequence = Error::SequenceMismatch { expected: 5, found: u64::MAX };
+        assert_eq!(refusal(&sequence).to_string(), "17 5 18446744073709551615");
+        let backlink = "v2 recovery: prev_pos 8191 < data_start 8192".to_string();
+        assert_eq!(refusal(&Error::OutOfBounds { msg: backlink }).to_string(), "19 0 0");
+        let walked = "v2 recovery: walked 1 elements but expected 2".to_string();
+        assert_eq!(refusal(&Error::InvalidValue { msg: walked }).to_string(), "18 0 0");
     }
 
     #[test]

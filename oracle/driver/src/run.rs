@@ -2,12 +2,15 @@
 
 use std::fmt::Display;
 
+use queue_file::QueueFile;
+
 use crate::image::Image;
-use crate::language::{accepted_with_state, spell_crc};
+use crate::language::{line_with_state, spell_crc};
+use crate::refusals::{Refusal, NONE};
 use crate::state::State;
 
 pub struct Run {
-    image: Image,
+    pub image: Image,
     pub state: Option<State>,
 }
 
@@ -30,9 +33,23 @@ impl Run {
 }
 
 impl Queue<'_> {
+    /// The upstream queue in this state, over the whole buffer.
+    pub fn upstream(&self) -> QueueFile {
+        self.state.upstream(self.image.held(self.state.file_len))
+    }
+
     /// The line of an operation that refuses nothing.
     pub fn accepted(&self, answer: impl Display) -> String {
+        self.line(NONE, answer)
+    }
+
+    /// The line of an operation that refuses: no answer stands behind it.
+    pub fn refused(&self, refusal: Refusal) -> String {
+        self.line(refusal, "")
+    }
+
+    fn line(&self, refusal: Refusal, answer: impl Display) -> String {
         let crc = spell_crc(self.image.crc(self.state.real_len));
-        accepted_with_state(format_args!("{} {crc}", self.state), answer)
+        line_with_state(refusal, format_args!("{} {crc}", self.state), answer)
     }
 }

@@ -28,12 +28,17 @@ pub fn on_ring<T>(bytes: &[u8], read: impl FnOnce(&DataRing<'_>) -> T) -> T {
     })
 }
 
-/// A new, empty file in the upstream code's hands. Nothing waits for the disk: the bytes are read
-/// back by the same process and then no more.
+/// A new, empty file in the upstream code's hands.
 pub fn queue() -> QueueFileInner {
+    held(nameless_file(), 0)
+}
+
+/// The file in the upstream code's hands, with no cursor noted. Nothing waits for the disk: the
+/// bytes are read back by the same process and then no more.
+pub fn held(file: File, file_len: u64) -> QueueFileInner {
     QueueFileInner {
-        file: Some(nameless_file()),
-        file_len: 0,
+        file: Some(file),
+        file_len,
         expected_seek: 0,
         last_seek: None,
         transfer_buf: vec![0; QueueFileInner::TRANSFER_BUFFER_SIZE].into_boxed_slice(),
@@ -43,7 +48,7 @@ pub fn queue() -> QueueFileInner {
 }
 
 /// A new file whose name is taken away at once, so that it goes when the process ends.
-fn nameless_file() -> File {
+pub fn nameless_file() -> File {
     static MADE: AtomicUsize = AtomicUsize::new(0);
     let nth = MADE.fetch_add(1, Ordering::Relaxed);
     let path = env::temp_dir().join(format!("oracle-{}-{nth}", process::id()));

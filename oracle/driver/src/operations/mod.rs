@@ -5,6 +5,8 @@
 pub mod checksum;
 pub mod elements;
 pub mod file_headers;
+pub mod opening;
+pub mod reading;
 pub mod ring;
 pub mod setup;
 pub mod slots;
@@ -13,7 +15,7 @@ use std::fmt::Display;
 
 use queue_file::inside::Result;
 
-use crate::language::{accepted, refused};
+use crate::language::{accepted, number, refused, OUTPUT_LIMIT};
 use crate::refusals::refusal;
 
 /// The upstream code takes counts and lengths as `usize`; a script's have 64 bits.
@@ -31,6 +33,11 @@ fn answered(returned: Result<impl Display>) -> String {
 /// functions take no fewer.
 fn layout<const LEN: usize>(bytes: &[u8]) -> Option<&[u8; LEN]> {
     bytes.get(..LEN)?.try_into().ok()
+}
+
+/// The length of an output, which has a limit.
+fn output_len(word: &[u8]) -> Option<usize> {
+    usize::try_from(number(word)?).ok().filter(|len| *len <= OUTPUT_LIMIT)
 }
 
 #[cfg(test)]

@@ -7,8 +7,9 @@ use std::fmt::Display;
 use queue_file::inside::header::V2_DATA_START;
 use queue_file::inside::qio::DataRingMut;
 
+use super::output_len;
 use crate::image::IMAGE_LEN;
-use crate::language::{bytes, number, spell_bytes, OUTPUT_LIMIT, SKIP};
+use crate::language::{bytes, number, spell_bytes, SKIP};
 use crate::run::Queue;
 
 /// The longest erasure that is run. The upstream code goes over the ring again and again, so that a
@@ -35,8 +36,7 @@ pub fn ring_distance(queue: Queue<'_>, from: &[u8], to: &[u8]) -> Option<String>
 }
 
 pub fn ring_read(queue: Queue<'_>, place: &[u8], len: &[u8]) -> Option<String> {
-    let (place, len) = (number(place)?, number(len)?);
-    let mut output = vec![0; usize::try_from(len).ok().filter(|len| *len <= OUTPUT_LIMIT)?];
+    let (place, mut output) = (number(place)?, vec![0; output_len(len)?]);
     Some(on_ring(queue, |ring| {
         ring.as_read_only().read_at(place, &mut output).expect("the ring is read");
         Some(spell_bytes(&output))

@@ -1,9 +1,10 @@
-//! The operations that lay out what the others work on: the state, and bytes of the image.
+//! The operations that lay out what the others work on: the state, its settings, and bytes of the
+//! image.
 
 use crate::image::IMAGE_LEN;
 use crate::language::{bytes, number};
 use crate::run::{Queue, Run};
-use crate::state::State;
+use crate::state::{read_flag, State};
 
 /// What `extend` puts behind the real length.
 const EXTENSION: u8 = 0xa5;
@@ -26,6 +27,16 @@ pub fn extend(queue: Queue<'_>, len: &[u8]) -> Option<String> {
     let (real_len, len) = (queue.state.real_len, number(len)?);
     queue.state.real_len = end_within_image(real_len, len)?;
     queue.image.store(real_len, &vec![EXTENSION; len as usize]);
+    Some(queue.accepted(""))
+}
+
+pub fn overwrite(queue: Queue<'_>, flag: &[u8]) -> Option<String> {
+    queue.state.overwrite = read_flag(number(flag)?)?;
+    Some(queue.accepted(""))
+}
+
+pub fn capacity(queue: Queue<'_>, capacity: &[u8]) -> Option<String> {
+    queue.state.capacity = number(capacity)?;
     Some(queue.accepted(""))
 }
 
@@ -87,6 +98,18 @@ mod tests {
         assert_eq!(last_answer("extend 18446744073709551615"), "bad");
         let beyond = "state A 0 0 262145 0 0 0 0 0 0 0 0 0 0";
         assert_eq!(last_answer(&format!("{beyond}\nextend 0")), "bad");
+    }
+
+    #[test]
+    fn a_setting_is_changed_and_nothing_else() {
+        let with =
+            |settings: &str| format!("0 0 0 A 0 8192 4 0 1 0 0 0 0 0 0 {settings} 2144df1c : ");
+        assert_eq!(last_answer("overwrite 1"), with("8192 1"));
+        assert_eq!(last_answer("overwrite 1\noverwrite 000"), with("8192 0"));
+        assert_eq!(last_answer("capacity 18446744073709551615"), with("18446744073709551615 0"));
+        assert_eq!(last_answer("overwrite 1\ncapacity 0"), with("0 1"));
+        assert_eq!(last_answer("overwrite 2"), "bad");
+        assert_eq!(last_answer("capacity 18446744073709551616"), "bad");
     }
 
     #[test]

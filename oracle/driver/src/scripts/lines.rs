@@ -2,7 +2,7 @@
 
 use super::Line;
 use crate::language::{spell_bytes, spell_numbers};
-use crate::state::State;
+use crate::state::{Settings, State};
 
 pub fn crc(part: &[u8]) -> Line {
     format!("crc {}", spell_bytes(part)).into_bytes()
@@ -94,4 +94,48 @@ pub fn ring_erase(place: u64, len: u64) -> Line {
 
 pub fn relocate(old_len: u64, count: u64) -> Line {
     format!("relocate {old_len} {count}").into_bytes()
+}
+
+pub fn image(bytes: &[u8], settings: Settings) -> Line {
+    format!("image {} {}", spell_bytes(bytes), spell_settings(settings)).into_bytes()
+}
+
+pub fn reopen(settings: Settings) -> Line {
+    format!("reopen {}", spell_settings(settings)).into_bytes()
+}
+
+pub fn recover(place: u64, seq: u64, n: u32) -> Line {
+    format!("recover {place} {seq} {n}").into_bytes()
+}
+
+pub fn used() -> Line {
+    b"used".to_vec()
+}
+
+pub fn peek() -> Line {
+    b"peek".to_vec()
+}
+
+pub fn peek_into(len: u64) -> Line {
+    format!("peek_into {len}").into_bytes()
+}
+
+pub fn iterate() -> Line {
+    b"iterate".to_vec()
+}
+
+pub fn step(index: u64, place: u64, len: u64) -> Line {
+    format!("step {index} {place} {len}").into_bytes()
+}
+
+pub fn overwrite(flag: bool) -> Line {
+    format!("overwrite {}", u8::from(flag)).into_bytes()
+}
+
+pub fn capacity(capacity: u64) -> Line {
+    format!("capacity {capacity}").into_bytes()
+}
+
+fn spell_settings(settings: Settings) -> String {
+    format!("{} {}", settings.capacity, u8::from(settings.overwrite))
 }

@@ -54,6 +54,13 @@ const ODD_FLAGS: &[&str] = &[
 ];
 
 impl Example {
+    /// A line taken apart, with the kinds of its words.
+    pub fn of(line: &'static str, kinds: &'static str) -> Self {
+        let mut words = line.split(' ');
+        let name = words.next().unwrap_or_default();
+        Self { name, words: words.map(str::to_string).collect(), kinds }
+    }
+
     pub fn line(&self) -> Line {
         spelled(self.name, &self.words)
     }
@@ -63,21 +70,22 @@ impl Example {
         [self.wrong_names(), self.wrong_counts(), self.wrong_words()].concat()
     }
 
-    /// A word too few, a word too many, and a first word that is wrong: no bytes where a number is
-    /// asked for, half a byte where bytes are, a small letter where a slot is.
-    pub fn few_misspelled(&self) -> [Line; 3] {
+    /// A word too many and, where there are words, one too few and a first one that is wrong: no
+    /// bytes where a number is asked for, half a byte where bytes are, a small letter where a slot
+    /// or a flag is.
+    pub fn few_misspelled(&self) -> Vec<Line> {
+        let surplus = self.with_surplus("0");
+        let Some(kind) = self.kinds.chars().next() else {
+            return vec![surplus];
+        };
         let mut first_wrong = self.words.clone();
-        first_wrong[0] = match &self.kinds[..1] {
-            "n" => "-",
-            "b" => "819",
+        first_wrong[0] = match kind {
+            'n' => "-",
+            'b' => "819",
             _ => "a",
         }
         .to_string();
-        [
-            spelled(self.name, &self.words[1..]),
-            self.with_surplus("0"),
-            spelled(self.name, &first_wrong),
-        ]
+        vec![spelled(self.name, &self.words[1..]), surplus, spelled(self.name, &first_wrong)]
     }
 
     /// The name as it is, and misspelled in each way.

@@ -5,10 +5,20 @@ mod codec_sample;
 mod codec_spellings;
 mod elements;
 mod file_headers;
+mod iterate;
+mod iterate_damaged;
+mod iterate_states;
 mod layouts;
 mod limits;
 mod lines;
 mod misspellings;
+mod open;
+mod open_lengths;
+mod open_slots;
+mod open_trails;
+mod queue_sample;
+mod queue_spellings;
+mod recover;
 mod ring;
 mod ring_large;
 mod ring_limits;
@@ -18,6 +28,11 @@ mod ring_spellings;
 mod sample;
 mod slots;
 mod spellings;
+mod trails;
+mod whole;
+mod worked;
+
+pub use worked::sample_images;
 
 use crate::language::SCRIPT_LIMIT;
 use crate::random::Random;
@@ -34,6 +49,9 @@ pub fn family(name: &str, seed: u64) -> Option<Vec<Script>> {
         "elements" => Some(elements::scripts(random)),
         "file_headers" => Some(file_headers::scripts(random)),
         "ring" => Some(ring::scripts(random)),
+        "open" => Some(open::scripts(random)),
+        "recover" => Some(recover::scripts(random)),
+        "iterate" => Some(iterate::scripts(random)),
         "sample" => Some(sample::scripts(random)),
         _ => None,
     }
@@ -71,11 +89,13 @@ mod tests {
     use super::*;
     use crate::answer::answers;
     use crate::language;
+    use crate::tally::opened_images;
     use std::collections::BTreeSet;
 
-    /// What each family but the first two is to reach: operation and number, with the field for 22.
+    /// What each family but the first two is to reach: operation and number, with the field for 22;
+    /// for an iteration the number that ended it.
     #[rustfmt::skip]
-    const REACHED: [(&str, &[&str]); 4] = [
+    const REACHED: [(&str, &[&str]); 7] = [
         ("slots", &[
             "slot_encode 0", "slot_encode 22 1", "slot_encode 22 2", "slot_encode 22 3",
             "slot_encode 22 4", "slot_parse 0", "slot_parse 31", "slot_parse skip",
@@ -103,13 +123,42 @@ mod tests {
             "ring_write 0", "ring_write bad", "ring_write skip", "ring_erase 0", "ring_erase bad",
             "ring_erase skip", "relocate 0", "relocate bad", "relocate skip",
         ]),
+        ("open", &[
+            "extend 0", "image 0", "image 10", "image 12", "iterate bad", "iterate skip",
+            "iterate end 0", "iterate end 2", "iterate end 5", "iterate end 8", "peek 0",
+            "peek 8", "peek skip", "peek_into 0", "poke 0", "recover 0", "recover 20",
+            "recover skip", "reopen 0", "reopen 2", "reopen 5", "reopen 6", "reopen 10",
+            "reopen 11", "reopen 12", "reopen 13", "reopen 14", "reopen 15", "reopen 16",
+            "reopen 17", "reopen 18", "reopen skip", "state 0", "used 0", "used bad", "used skip",
+        ]),
+        ("recover", &[
+            "image 0", "image 2", "image 3", "image 4", "image 5", "image 6", "image 17",
+            "image 18", "image 19", "iterate bad", "iterate skip", "iterate end 0",
+            "iterate end 2", "iterate end 3", "iterate end 4", "iterate end 5", "iterate end 6",
+            "iterate end 7", "iterate end 8", "peek 0", "peek 8", "poke 0", "recover 0",
+            "recover 2", "recover 3", "recover 4", "recover 5", "recover 6", "recover 17",
+            "recover 18", "recover 19", "recover 20", "recover skip", "reopen 0", "reopen 2",
+            "reopen 3", "reopen 4", "reopen 5", "reopen 6", "reopen 14", "reopen 16", "reopen 17",
+            "reopen 18", "reopen 19", "state 0", "used 0", "used skip",
+        ]),
+        ("iterate", &[
+            "capacity 0", "image 0", "iterate skip", "iterate end 0", "iterate end 2",
+            "iterate end 3", "iterate end 4", "iterate end 5", "iterate end 6", "iterate end 7",
+            "iterate end 8", "iterate end 9", "overwrite 0", "peek 0", "peek 7", "peek 8",
+            "peek 9", "peek skip", "peek_into 0", "peek_into 7", "peek_into 8", "peek_into 9",
+            "peek_into skip", "poke 0", "recover 0", "recover 5", "recover skip", "reopen 0",
+            "reopen 2", "reopen 3", "reopen 4", "reopen 5", "reopen 6", "reopen 10", "reopen 12",
+            "reopen 17", "reopen skip", "state 0", "step 0", "step 2", "step 3", "step 4",
+            "step 5", "step 6", "step 7", "step 8", "step 9", "step skip", "used 0", "used skip",
+        ]),
     ];
 
     fn all_lines(scripts: &[Script]) -> Vec<&[u8]> {
         scripts.iter().flat_map(|script| language::lines(script)).collect()
     }
 
-    /// The first word of every line with the number of its answer, or `bad` or `skip`.
+    /// The first word of every line with the number of its answer, or what ended it, or `bad` or
+    /// `skip`.
     fn reached(scripts: &[Script]) -> BTreeSet<String> {
         let answered: String = scripts.iter().map(answers).collect();
         let lines = all_lines(scripts);
@@ -117,15 +166,28 @@ mod tests {
         let told = |(line, answer): (&&[u8], &str)| {
             let operation = language::words(line)[0].escape_ascii();
             let words: Vec<&str> = answer.split(' ').collect();
-            let shown = if words[0] == "22" { 2 } else { 1 };
-            format!("{operation} {}", words[..shown].join(" "))
+            match words[..] {
+                [.., "end", stopped, _, _] => format!("{operation} end {stopped}"),
+                ["22", field, ..] => format!("{operation} 22 {field}"),
+                _ => format!("{operation} {}", words[0]),
+            }
         };
         lines.iter().zip(answered.lines()).map(told).collect()
     }
 
     #[test]
     fn the_seed_decides() {
-        for name in ["crc", "bad", "slots", "elements", "file_headers", "ring"] {
+        for name in [
+            "crc",
+            "bad",
+            "slots",
+            "elements",
+            "file_headers",
+            "ring",
+            "open",
+            "recover",
+            "iterate",
+        ] {
             assert!(family(name, 7) == family(name, 7), "{name}");
             assert!(family(name, 7) != family(name, 8), "{name}");
         }
@@ -147,13 +209,27 @@ mod tests {
         let lines = |name| all_lines(&family(name, 1).unwrap()).len();
         assert!(lines("slots") + lines("elements") + lines("file_headers") >= 210_000);
         assert!(lines("ring") >= 60_000);
+        assert!(lines("open") + lines("recover") + lines("iterate") >= 150_000);
+    }
+
+    #[test]
+    fn as_many_images_are_opened_as_are_wanted() {
+        let mut images = BTreeSet::new();
+        for name in ["open", "recover", "iterate"] {
+            for script in family(name, 1).unwrap() {
+                images.extend(opened_images(&script, answers(&script).as_bytes()));
+            }
+        }
+        assert!(images.len() >= 20_000, "{}", images.len());
     }
 
     #[test]
     fn the_sample_shows_every_answer_and_none_is_passed_over() {
         let shown = reached(&family("sample", 1).unwrap());
         for told in REACHED.iter().flat_map(|(_, reached)| reached.iter()) {
-            assert_eq!(shown.contains(*told), !told.ends_with("skip"), "{told}");
+            // A refused image is as long as another; what opening refuses is shown by `reopen`.
+            let told = told.replace("image", "reopen");
+            assert_eq!(shown.contains(&told), !told.ends_with("skip"), "{told}");
         }
         assert!(!shown.iter().any(|told| told.ends_with("skip")));
     }
@@ -192,6 +268,6 @@ mod tests {
     fn the_sample_is_one_small_script() {
         let scripts = family("sample", 1).unwrap();
         assert_eq!(scripts.len(), 1);
-        assert!(scripts[0].len() <= 60_000);
+        assert!(scripts[0].len() <= 100_000);
     }
 }

@@ -22,11 +22,7 @@ const STATE: &str = "state A 6 8212 8300 3 5 4 0 2 12 0 4 8192 1";
 const RING: &str = "poke 8192 8182838485868788898a8b8c8d8e8f9091929394";
 
 fn examples() -> impl Iterator<Item = Example> {
-    LINES.iter().map(|&(line, kinds)| {
-        let mut words = line.split(' ');
-        let name = words.next().unwrap_or_default();
-        Example { name, words: words.map(str::to_string).collect(), kinds }
-    })
+    LINES.iter().map(|&(line, kinds)| Example::of(line, kinds))
 }
 
 /// A script for each operation, misspelled in each way. The ring is laid anew before each line, also

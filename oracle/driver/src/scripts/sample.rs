@@ -3,6 +3,8 @@
 use super::codec_sample;
 use super::codec_spellings::few_wrong_codecs;
 use super::lines::{crc, crc_joined};
+use super::queue_sample;
+use super::queue_spellings::few_wrong_queue_lines;
 use super::ring_sample;
 use super::ring_spellings::{few_wrong_ring_lines, without_a_state};
 use super::spellings::ODD_LINES;
@@ -25,9 +27,11 @@ pub fn scripts(random: &mut Random) -> Vec<Script> {
     lines.extend([12, 28, 52, 300].iter().flat_map(|len| some_splits(&random.bytes(*len))));
     lines.extend(codecs());
     lines.extend(ring());
+    lines.extend(queue());
     lines.push(comment("Odd spellings; the last line has no newline."));
     lines.extend(few_wrong_codecs());
     lines.extend(few_wrong_ring_lines());
+    lines.extend(few_wrong_queue_lines());
     lines.extend(printable_odd_lines());
 
     let mut script = packed(lines).concat();
@@ -63,6 +67,21 @@ fn ring() -> Vec<Line> {
         ("The ring written.", ring_sample::writes()),
         ("The ring erased.", ring_sample::erasures()),
         ("Bytes moved behind the old end.", ring_sample::relocations()),
+    ];
+    with_titles(parts)
+}
+
+/// A queue opened, recovered and read, with each answer.
+fn queue() -> Vec<Line> {
+    let parts = [
+        ("Images that do not open.", queue_sample::refused_images()),
+        ("A queue of three elements.", queue_sample::opened()),
+        ("Its head found from its tail.", queue_sample::recoveries()),
+        ("Its slot changed.", queue_sample::slots_changed()),
+        ("Its last header changed.", queue_sample::headers_changed()),
+        ("Its footers changed, and an element of another run.", queue_sample::footers_changed()),
+        ("Its first pointer spoiled.", queue_sample::heads_recovered()),
+        ("Its file cut and lengthened.", queue_sample::real_lengths()),
     ];
     with_titles(parts)
 }

@@ -3,8 +3,9 @@
 
 use super::codec_spellings::{mutated_codec, too_long_for_a_codec, wrong_codecs};
 use super::lines::{crc, crc_joined};
-use super::ring_spellings::{mutated_ring_lines, without_a_state, wrong_ring_lines};
-use super::{joined, packed, Line, Script};
+use super::queue_spellings::{longest_images, mutated_queue_lines, wrong_queue_lines};
+use super::ring_spellings::{mutated_ring_lines, wrong_ring_lines};
+use super::{joined, packed, queue_spellings, ring_spellings, Line, Script};
 use crate::language::{BYTES_LIMIT, SCRIPT_LIMIT};
 use crate::random::Random;
 
@@ -72,9 +73,13 @@ pub fn scripts(random: &mut Random) -> Vec<Script> {
     scripts.extend(packed(wrong_codecs()));
     scripts.extend(packed((0..MUTATIONS).map(|_| mutated_codec(random))));
     scripts.extend(packed(too_long_for_a_codec(random)));
-    scripts.push(joined(&without_a_state()));
+    scripts.push(joined(&ring_spellings::without_a_state()));
     scripts.extend(wrong_ring_lines());
     scripts.push(mutated_ring_lines(random, MUTATIONS));
+    scripts.push(joined(&queue_spellings::without_a_state()));
+    scripts.push(joined(&wrong_queue_lines()));
+    scripts.push(mutated_queue_lines(random, MUTATIONS));
+    scripts.extend(longest_images(random));
     scripts
 }
 
