@@ -1,15 +1,26 @@
 // What an operation answers. It is a value, so that no operation holds the text that waits, and one function prints them all.
+use queue::QueueFile;
+use queue::Step;
 use refusal::Refusal;
 use refusal::Verdict;
 
-// Whether bytes were put in the output, and how many.
-pub enum Output {
+// How an answer ends.
+pub enum Tail {
     Nothing,
-    Bytes(usize),
+    // The word of a queue that has no element.
+    Empty,
+    // The word of an iteration that has no next element.
+    End,
+    // So many bytes, which were put in the output.
+    Output(usize),
+    // An element, whose payload was put in the output.
+    Step(Step),
+    // All elements of a queue, which are read as they are printed.
+    Elements(QueueFile),
 }
 
-// A refusal; where it is none, a letter, numbers and bytes, of which most answers have one kind or none. The answer to a line that
-// is no operation is bad, and the rest of it does not count.
+// A refusal; where it is none, a letter, numbers, bytes and a tail, of which most answers have one kind or none. The answer to a line
+// that is no operation is bad, and the rest of it does not count.
 pub struct Answer {
     pub bad: bool,
     pub refusal: Refusal,
@@ -20,16 +31,25 @@ pub struct Answer {
     pub number_count: usize,
     pub bytes: [u8; 56],
     pub byte_count: usize,
-    pub output: Output,
+    pub tail: Tail,
 }
 
 impl Answer {
-    // A refusal, or nothing where it is none.
-    pub fn of_refusal(refusal: Refusal) -> Answer {
-        Answer::with_output(refusal, Output::Nothing)
+    // The answer of an operation that is done and tells nothing.
+    pub fn done() -> Answer {
+        Answer::of_refusal(Refusal::NONE)
     }
 
-    fn with_output(refusal: Refusal, output: Output) -> Answer {
+    // A refusal, or nothing where it is none.
+    pub fn of_refusal(refusal: Refusal) -> Answer {
+        Answer::with_tail(refusal, Tail::Nothing)
+    }
+
+    pub fn of_tail(tail: Tail) -> Answer {
+        Answer::with_tail(Refusal::NONE, tail)
+    }
+
+    fn with_tail(refusal: Refusal, tail: Tail) -> Answer {
         Answer {
             bad: false,
             refusal: refusal,
@@ -38,19 +58,19 @@ impl Answer {
             number_count: 0,
             bytes: [0; 56],
             byte_count: 0,
-            output: output,
+            tail: tail,
         }
     }
 
     pub fn bad() -> Answer {
-        let mut answer = Answer::of_refusal(Refusal::NONE);
+        let mut answer = Answer::done();
         answer.bad = true;
         answer
     }
 
     // The first `count` of these numbers.
     pub fn of_numbers(numbers: [u64; 6], count: usize) -> Answer {
-        let mut answer = Answer::of_refusal(Refusal::NONE);
+        let mut answer = Answer::done();
         answer.numbers = numbers;
         answer.number_count = count;
         answer
@@ -72,7 +92,7 @@ impl Answer {
     // What was read into the output: so many bytes, or a refusal.
     pub fn of_output(verdict: Verdict, count: usize) -> Answer {
         match verdict {
-            Verdict::Granted => Answer::with_output(Refusal::NONE, Output::Bytes(count)),
+            Verdict::Granted => Answer::of_tail(Tail::Output(count)),
             Verdict::Refused(refusal) => Answer::of_refusal(refusal),
         }
     }

@@ -1,13 +1,13 @@
-// The operations on the bench, which is the state, the image and the output: their names, the shapes of their lines, and who answers
-// them.
+// The operations on the bench, which is the state, the image and the output, but for those on the queue: their names, the shapes of
+// their lines, and who answers them.
 use crate::answer::Answer;
 use crate::done::Done;
 use crate::on_ring;
 use crate::setup;
-use crate::state::QueueFile;
 use crate::words::Numbers;
 use crate::words::Shape;
 use crate::words::place;
+use queue::QueueFile;
 
 pub enum BenchOperation {
     State,
@@ -55,32 +55,27 @@ pub fn shape(operation: BenchOperation) -> Shape {
     }
 }
 
-// What a line with these numbers does. Its byte string is the first `len` bytes of the room, which is the output as well.
+// What a line with these numbers and this byte string does.
 pub fn work(
     operation: BenchOperation,
     n: Numbers,
-    len: usize,
-    room: &mut [u8],
+    bytes: &[u8],
+    output: &mut [u8],
     image: &mut [u8],
     q: QueueFile,
 ) -> Done {
     if let BenchOperation::Extend = operation {
         return setup::extend(image, n.first, q);
     }
-    if let BenchOperation::RingRead = operation {
-        return Done::on_bench(on_ring::read(image, q.file_len, n, room), q);
-    }
-    Done::on_bench(
-        answer(operation, n, wire::part(room, 0, len), image, q.file_len),
-        q,
-    )
+    Done::on_bench(answer(operation, n, bytes, output, image, q.file_len), q)
 }
 
-// The answer to a line that leaves the state as it is and has no output.
+// The answer to a line that leaves the state as it is.
 fn answer(
     operation: BenchOperation,
     n: Numbers,
     bytes: &[u8],
+    output: &mut [u8],
     image: &mut [u8],
     file_len: u64,
 ) -> Answer {
@@ -88,6 +83,7 @@ fn answer(
         BenchOperation::Poke => setup::poke(image, n.first, bytes),
         BenchOperation::RingAdd => on_ring::add(image.len() as u64, file_len, n),
         BenchOperation::RingDistance => on_ring::distance(image.len() as u64, file_len, n),
+        BenchOperation::RingRead => on_ring::read(image, file_len, n, output),
         BenchOperation::RingWrite => on_ring::write(image, file_len, n.first, bytes),
         BenchOperation::RingErase => on_ring::erase(image, file_len, n),
         BenchOperation::Relocate => on_ring::relocate(image, n),

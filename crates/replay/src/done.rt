@@ -1,8 +1,8 @@
 // What a line leaves behind: its answer, and the state for the lines after it.
 use crate::answer::Answer;
-use crate::state::QueueFile;
+use queue::QueueFile;
 
-// The state, or nothing before the first.
+// The state, or nothing before the first and behind an image that was not opened.
 pub enum Held {
     Nothing,
     State(QueueFile),
@@ -18,10 +18,15 @@ pub struct Done {
 impl Done {
     // An operation on the bench, which leaves this state.
     pub fn on_bench(answer: Answer, state: QueueFile) -> Done {
+        Done::leaving(answer, Held::State(state))
+    }
+
+    // The same of one that may leave no state.
+    pub fn leaving(answer: Answer, held: Held) -> Done {
         Done {
             answer: answer,
-            after: Held::State(state),
-            shown: Held::State(state),
+            after: held,
+            shown: held,
         }
     }
 

@@ -4,9 +4,6 @@ use crate::answer::Answer;
 use crate::words::Numbers;
 use ring::Placed;
 
-// An output is no longer than this.
-const OUTPUT_LEN: usize = 65536;
-
 // `ring_add PLACE DISTANCE`
 pub fn add(image_len: u64, file_len: u64, n: Numbers) -> Answer {
     placed(ring::add(image_len, file_len, n.first, n.second))
@@ -24,16 +21,13 @@ fn placed(placed: Placed) -> Answer {
     }
 }
 
-// `ring_read PLACE N`. The output is the front of the room, which is long enough for every output.
-pub fn read(image: &[u8], file_len: u64, n: Numbers, room: &mut [u8]) -> Answer {
+// `ring_read PLACE N`
+pub fn read(image: &[u8], file_len: u64, n: Numbers, output: &mut [u8]) -> Answer {
     let len = n.second as usize;
-    if len > OUTPUT_LEN {
+    if len > output.len() {
         return Answer::bad();
     }
-    if len > room.len() {
-        return Answer::bad();
-    }
-    let verdict = ring::read_at(image, file_len, n.first, &mut room[0..len]);
+    let verdict = ring::read_at(image, file_len, n.first, &mut output[0..len]);
     Answer::of_output(verdict, len)
 }
 

@@ -1,33 +1,21 @@
-// The text that waits to be written: the first `len` bytes of `buf`. It is written where `buf` is full and at the end, so that a
-// script takes few system calls; each function that appends to it answers how many bytes wait then.
+// The line of an operation: the refusal, the state where it is shown, and the answer.
 use crate::answer::Answer;
-use crate::answer::Output;
+use crate::answer::Tail;
 use crate::done::Done;
 use crate::done::Held;
+use crate::listing::put_elements;
+use crate::listing::put_step;
 use crate::slots::letter;
-use crate::state::QueueFile;
-use refusal::Refusal;
+use crate::text::put;
+use crate::text::put_between;
+use crate::text::put_decimals;
+use crate::text::put_hex;
+use crate::text::put_refusal;
+use crate::text::put_sum;
+use queue::QueueFile;
 
-// Writes what waits.
-pub fn flush(buf: &[u8], len: usize) {
-    io::write_all(libc::STDOUT_FILENO, wire::part(buf, 0, len));
-}
-
-// Appends `text`. Where there is no room for it behind what waits, both are written at once.
-fn put(buf: &mut [u8], len: usize, text: &[u8]) -> usize {
-    if len <= buf.len() {
-        if text.len() <= buf.len() - len {
-            wire::put(buf, len, text);
-            return len + text.len();
-        }
-    }
-    flush(buf, len);
-    io::write_all(libc::STDOUT_FILENO, text);
-    0
-}
-
-// Appends the line of an operation: `sum` is the image's checksum, and `output` is where the operation put what it read.
-pub fn put_done(buf: &mut [u8], len: usize, done: Done, sum: u32, output: &[u8]) -> usize {
+// Appends the line of an operation: `output` is where the operation put what it read.
+pub fn put_done(buf: &mut [u8], len: usize, done: Done, image: &[u8], output: &mut [u8]) -> usize {
     let answer = done.answer;
     if answer.bad {
         return put(buf, len, b"bad\n");
@@ -35,33 +23,34 @@ pub fn put_done(buf: &mut [u8], len: usize, done: Done, sum: u32, output: &[u8])
     let refusal = answer.refusal;
     let shown = done.shown;
     let state = put_refusal(buf, len, refusal);
-    let colon = put_shown(buf, state, shown, sum);
-    put_answer(buf, colon, answer, output)
+    let colon = put_shown(buf, state, shown, image);
+    put_answer(buf, colon, answer, image, output)
 }
 
 // Appends the colon, what an answer has where nothing is refused, and the line's end.
-fn put_answer(buf: &mut [u8], len: usize, answer: Answer, output: &[u8]) -> usize {
-    let read = answer.output;
+fn put_answer(
+    buf: &mut [u8],
+    len: usize,
+    answer: Answer,
+    image: &[u8],
+    output: &mut [u8],
+) -> usize {
+    let tail = answer.tail;
     let start = put(buf, len, b" : ");
     let rest = put_result(buf, start, answer);
-    let end = put_output(buf, rest, read, output);
+    let end = put_tail(buf, rest, tail, image, output);
     put(buf, end, b"\n")
 }
 
-// Appends what begins every answer: the refusal's number and its two values, all 0 where nothing is refused.
-fn put_refusal(buf: &mut [u8], len: usize, refusal: Refusal) -> usize {
-    let values = [refusal.number as u64, refusal.first, refusal.second];
-    put_decimals(buf, len, &values, 3)
-}
-
-// Appends the state and the image's checksum, where they are shown.
-fn put_shown(buf: &mut [u8], len: usize, shown: Held, sum: u32) -> usize {
+// Appends the state and the checksum of the image up to its real length, where they are shown.
+fn put_shown(buf: &mut [u8], len: usize, shown: Held, image: &[u8]) -> usize {
     let Held::State(q) = shown else {
         return len;
     };
     let end = put_state(buf, len, q);
     let start = put(buf, end, b" ");
-    put_hex(buf, start, &wire::u32_bytes(sum))
+    let sum = crc::crc32(wire::part(image, 0, q.real_len as usize));
+    put_sum(buf, start, sum)
 }
 
 // Appends a state.
@@ -87,31 +76,21 @@ fn put_state(buf: &mut [u8], len: usize, q: QueueFile) -> usize {
         flag(settings.overwrite_on_remove),
     ];
     let start = put(buf, len, &[b' ', letter(slot), b' ']);
-    put_decimals(buf, start, &numbers, 13)
+    put_decimals(buf, start, &numbers, 13, b" ")
 }
 
 fn flag(on: bool) -> u64 {
     if on { 1 } else { 0 }
 }
 
-// Appends what an answer has beside the output.
+// Appends what an answer has before its tail.
 fn put_result(buf: &mut [u8], len: usize, answer: Answer) -> usize {
     let numbers = answer.numbers;
     let bytes = answer.bytes;
+    let count = answer.number_count;
     let start = put_letter(buf, len, answer.letter);
-    let end = put_decimals(buf, start, &numbers, answer.number_count);
-    put_hex(buf, end, wire::part(&bytes, 0, answer.byte_count))
-}
-
-// Appends what was read into `output`, a byte string: `-` where it has no bytes.
-fn put_output(buf: &mut [u8], len: usize, read: Output, output: &[u8]) -> usize {
-    let Output::Bytes(n) = read else {
-        return len;
-    };
-    if n == 0 {
-        return put(buf, len, b"-");
-    }
-    put_hex(buf, len, wire::part(output, 0, n))
+    let end = put_decimals(buf, start, &numbers, count, b" ");
+    put_bytes(buf, end, count, wire::part(&bytes, 0, answer.byte_count))
 }
 
 // Appends a letter and a space, where there is a letter.
@@ -122,46 +101,31 @@ fn put_letter(buf: &mut [u8], len: usize, letter: u8) -> usize {
     put(buf, len, &[letter, b' '])
 }
 
-// Appends the first `count` numbers in decimal, parted by single spaces.
-fn put_decimals(buf: &mut [u8], len: usize, numbers: &[u64], count: usize) -> usize {
-    let mut at = len;
-    let mut i = 0;
-    while i < numbers.len() {
-        if i >= count {
-            return at;
-        }
-        let start = put_space_before(buf, at, i);
-        at = put_decimal(buf, start, numbers[i]);
-        i += 1;
+// Appends the bytes that stand behind so many numbers, where there are bytes.
+fn put_bytes(buf: &mut [u8], len: usize, count: usize, bytes: &[u8]) -> usize {
+    if bytes.len() == 0 {
+        return len;
     }
-    at
+    let start = put_between(buf, len, count, b" ");
+    put_hex(buf, start, bytes)
 }
 
-// Appends the space that parts the i-th of several words from the one before, which the first has not.
-fn put_space_before(buf: &mut [u8], len: usize, i: usize) -> usize {
-    if i == 0 { len } else { put(buf, len, b" ") }
-}
-
-// Appends a number in decimal.
-fn put_decimal(buf: &mut [u8], len: usize, n: u64) -> usize {
-    let mut text = [0u8; 20];
-    let k = io::decimal(n, &mut text);
-    put(buf, len, &text[..k])
-}
-
-// Appends bytes in lower-case hex.
-fn put_hex(buf: &mut [u8], len: usize, bytes: &[u8]) -> usize {
-    let mut at = len;
-    let mut i = 0;
-    while i < bytes.len() {
-        at = put_hex_byte(buf, at, bytes[i]);
-        i += 1;
+// Appends an answer's tail.
+fn put_tail(buf: &mut [u8], len: usize, tail: Tail, image: &[u8], output: &mut [u8]) -> usize {
+    match tail {
+        Tail::Nothing => len,
+        Tail::Empty => put(buf, len, b"empty"),
+        Tail::End => put(buf, len, b"end"),
+        Tail::Output(n) => put_output(buf, len, wire::part(output, 0, n)),
+        Tail::Step(step) => put_step(buf, len, step, output),
+        Tail::Elements(q) => put_elements(buf, len, q, image, output),
     }
-    at
 }
 
-fn put_hex_byte(buf: &mut [u8], len: usize, byte: u8) -> usize {
-    let mut text = [0u8; 16];
-    let k = io::hex(byte as u64, 2, &mut text);
-    put(buf, len, &text[..k])
+// Appends what was read into the output, a byte string: `-` where it has no bytes.
+fn put_output(buf: &mut [u8], len: usize, read: &[u8]) -> usize {
+    if read.len() == 0 {
+        return put(buf, len, b"-");
+    }
+    put_hex(buf, len, read)
 }

@@ -4,16 +4,15 @@ use crate::bench;
 use crate::bench::BenchOperation;
 use crate::done::Done;
 use crate::done::Held;
-use crate::operation::Operation;
 use crate::operation::answer;
 use crate::operation::named;
 use crate::operation::shape;
 use crate::output::put_done;
+use crate::reading;
+use crate::reading::ReadingOperation;
 use crate::setup;
-use crate::words::Lengths;
-use crate::words::ReadNumbers;
-use crate::words::read_numbers;
-use crate::words::read_strings;
+use crate::words::Words;
+use crate::words::read_words;
 
 // What goes from line to line: how many bytes wait in `buf`, and the state.
 struct Progress {
@@ -22,7 +21,13 @@ struct Progress {
 }
 
 // Runs every line, and answers how many bytes wait in `buf` at the end. What stands behind the last newline is a line if it has bytes.
-pub fn run_script(text: &[u8], room: &mut [u8], image: &mut [u8], buf: &mut [u8]) -> usize {
+pub fn run_script(
+    text: &[u8],
+    room: &mut [u8],
+    output: &mut [u8],
+    image: &mut [u8],
+    buf: &mut [u8],
+) -> usize {
     let mut progress = Progress {
         len: 0,
         held: Held::Nothing,
@@ -30,7 +35,7 @@ pub fn run_script(text: &[u8], room: &mut [u8], image: &mut [u8], buf: &mut [u8]
     let mut at = 0;
     while at < text.len() {
         let end = script::line_end(text, at);
-        progress = run_line(&text[at..end], room, image, buf, progress);
+        progress = run_line(&text[at..end], room, output, image, buf, progress);
         at = end + 1;
     }
     progress.len
@@ -39,6 +44,7 @@ pub fn run_script(text: &[u8], room: &mut [u8], image: &mut [u8], buf: &mut [u8]
 fn run_line(
     line: &[u8],
     room: &mut [u8],
+    output: &mut [u8],
     image: &mut [u8],
     buf: &mut [u8],
     progress: Progress,
@@ -47,12 +53,10 @@ fn run_line(
         return progress;
     }
     let held = progress.held;
-    let done = do_line(line, room, image, held);
-    let shown = done.shown;
+    let done = do_line(line, room, output, image, held);
     let after = done.after;
-    let sum = image_sum(image, shown);
     Progress {
-        len: put_done(buf, progress.len, done, sum, room),
+        len: put_done(buf, progress.len, done, image, output),
         held: after,
     }
 }
@@ -65,16 +69,27 @@ fn is_silent(line: &[u8]) -> bool {
     line[0] == b'#'
 }
 
-// The CRC-32 of the image up to a state's real length, or 0 where no state is shown.
-fn image_sum(image: &[u8], shown: Held) -> u32 {
-    match shown {
-        Held::State(q) => crc::crc32(wire::part(image, 0, q.real_len as usize)),
-        Held::Nothing => 0,
+// An operation that opens a queue or reads it, or another.
+fn do_line(line: &[u8], room: &mut [u8], output: &mut [u8], image: &mut [u8], held: Held) -> Done {
+    let operation = reading::named(script::word(line, 0));
+    if let ReadingOperation::Unknown = operation {
+        return do_bench_line(line, room, output, image, held);
     }
+    let Words::Of(n, len, _) = read_words(line, reading::shape(operation), room) else {
+        return Done::bad(held);
+    };
+    let bytes = wire::part(room, 0, len);
+    reading::work(operation, n, bytes, output, image, held)
 }
 
 // An operation on the bench, or one that needs none.
-fn do_line(line: &[u8], room: &mut [u8], image: &mut [u8], held: Held) -> Done {
+fn do_bench_line(
+    line: &[u8],
+    room: &mut [u8],
+    output: &mut [u8],
+    image: &mut [u8],
+    held: Held,
+) -> Done {
     let operation = bench::named(script::word(line, 0));
     if let BenchOperation::Unknown = operation {
         return Done::elsewhere(answer_line(line, room), held);
@@ -82,7 +97,7 @@ fn do_line(line: &[u8], room: &mut [u8], image: &mut [u8], held: Held) -> Done {
     if let BenchOperation::State = operation {
         return setup::give(line, held);
     }
-    work_line(line, operation, room, image, held)
+    work_line(line, operation, room, output, image, held)
 }
 
 // Reads the words of a line that needs a state, and does what it says.
@@ -90,40 +105,25 @@ fn work_line(
     line: &[u8],
     operation: BenchOperation,
     room: &mut [u8],
+    output: &mut [u8],
     image: &mut [u8],
     held: Held,
 ) -> Done {
     let Held::State(q) = held else {
         return Done::bad(held);
     };
-    let shape = bench::shape(operation);
-    let ReadNumbers::Of(n) = read_numbers(line, shape) else {
+    let Words::Of(n, len, _) = read_words(line, bench::shape(operation), room) else {
         return Done::bad(held);
     };
-    let Lengths::Of(len, _) = read_strings(line, shape, room) else {
-        return Done::bad(held);
-    };
-    bench::work(operation, n, len, room, image, q)
+    let bytes = wire::part(room, 0, len);
+    bench::work(operation, n, bytes, output, image, q)
 }
 
-// Reads the byte strings of a line into `room`, and answers the line.
+// Reads the words of a line that needs no bench, and answers the line.
 fn answer_line(line: &[u8], room: &mut [u8]) -> Answer {
     let operation = named(script::word(line, 0));
-    let Lengths::Of(n, m) = read_strings(line, shape(operation), room) else {
+    let Words::Of(n, a, b) = read_words(line, shape(operation), room) else {
         return Answer::bad();
     };
-    answer_strings(
-        line,
-        operation,
-        wire::part(room, 0, n),
-        wire::part(room, n, m),
-    )
-}
-
-// Reads the numbers of a line whose byte strings are a and b, and answers the line.
-fn answer_strings(line: &[u8], operation: Operation, a: &[u8], b: &[u8]) -> Answer {
-    let ReadNumbers::Of(n) = read_numbers(line, shape(operation)) else {
-        return Answer::bad();
-    };
-    answer(operation, n, a, b)
+    answer(operation, n, wire::part(room, 0, a), wire::part(room, a, b))
 }

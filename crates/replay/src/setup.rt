@@ -2,15 +2,14 @@
 use crate::answer::Answer;
 use crate::done::Done;
 use crate::done::Held;
-use crate::state::Element;
-use crate::state::QueueFile;
-use crate::state::Settings;
 use crate::words::Shape;
 use crate::words::fill_numbers;
 use crate::words::place;
 use format::V2Format;
 use header::HeaderSlot;
-use refusal::Refusal;
+use queue::Element;
+use queue::QueueFile;
+use queue::Settings;
 
 // `state SLOT GENERATION FILE_LEN REAL_LEN COUNT NEXT_SEQ FIRST_POS FIRST_LEN FIRST_SEQ LAST_POS LAST_LEN LAST_SEQ CAPACITY OVERWRITE`.
 // No other line has so many words, so they are read here.
@@ -21,17 +20,14 @@ pub fn give(line: &[u8], held: Held) -> Done {
     }
     let mut n = [0u64; 15];
     // The slot is no number: the shape has a byte string in its place, and only the numbers are read by it.
-    if !fill_numbers(line, Shape::of_words(15, 1, 0), &mut n) {
+    if !fill_numbers(line, Shape::of_words(15, 1, 0).with_flag(14), &mut n) {
         return Done::bad(held);
     }
     if n[5] > 0xffff_ffff {
         return Done::bad(held);
     }
-    if n[14] > 1 {
-        return Done::bad(held);
-    }
     let state = state_of(slot_at(slot), n[5] as u32, n);
-    Done::on_bench(Answer::of_refusal(Refusal::NONE), state)
+    Done::on_bench(Answer::done(), state)
 }
 
 // The state with this slot, this count and the other numbers of a line, each at its word's place.
@@ -80,7 +76,7 @@ pub fn poke(image: &mut [u8], offset: u64, bytes: &[u8]) -> Answer {
         return Answer::bad();
     }
     wire::put(image, at, bytes);
-    Answer::of_refusal(Refusal::NONE)
+    Answer::done()
 }
 
 // `extend N`. A file that grows has bytes that nobody wrote: a5 tells them from bytes that were made zero.
@@ -96,5 +92,5 @@ pub fn extend(image: &mut [u8], n: u64, q: QueueFile) -> Done {
     wire::fill_at(image, start, len, 0xa5);
     let mut after = q;
     after.real_len = (start + len) as u64;
-    Done::on_bench(Answer::of_refusal(Refusal::NONE), after)
+    Done::on_bench(Answer::done(), after)
 }

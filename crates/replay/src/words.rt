@@ -3,12 +3,13 @@
 use script::Bytes;
 use script::Number;
 
-// How many words a line has, and which of them are byte strings. Words are counted from the operation's name, which is word 0, so
-// that 0 says that there is no such string. All others are numbers.
+// How many words a line has, and which of them are byte strings or a flag. Words are counted from the operation's name, which is
+// word 0, so that 0 says that there is no such word. All others are numbers.
 pub struct Shape {
     pub count: usize,
     pub first_string: usize,
     pub second_string: usize,
+    pub flag: usize,
 }
 
 impl Shape {
@@ -17,18 +18,21 @@ impl Shape {
         count: 0,
         first_string: 0,
         second_string: 0,
+        flag: 0,
     };
 
     pub const ONE_STRING: Shape = Shape {
         count: 2,
         first_string: 1,
         second_string: 0,
+        flag: 0,
     };
 
     pub const TWO_STRINGS: Shape = Shape {
         count: 3,
         first_string: 1,
         second_string: 2,
+        flag: 0,
     };
 
     // So many words, the name among them, with byte strings at these places.
@@ -37,12 +41,20 @@ impl Shape {
             count: count,
             first_string: first_string,
             second_string: second_string,
+            flag: 0,
         }
     }
 
     // So many words, the name among them, and no byte string.
     pub fn of_numbers(count: usize) -> Shape {
         Shape::of_words(count, 0, 0)
+    }
+
+    // The same with a flag at this place, which is a number that is 0 or 1.
+    pub fn with_flag(self, flag: usize) -> Shape {
+        let mut shape = self;
+        shape.flag = flag;
+        shape
     }
 }
 
@@ -59,14 +71,31 @@ pub fn place(name: &[u8], names: &[u8]) -> usize {
     i
 }
 
+// The numbers of a line, and how long its byte strings are.
+pub enum Words {
+    Of(Numbers, usize, usize),
+    Bad,
+}
+
+// Reads the words of a line; its byte strings come at the start of `room`, the second behind the first.
+pub fn read_words(line: &[u8], shape: Shape, room: &mut [u8]) -> Words {
+    let ReadNumbers::Of(n) = read_numbers(line, shape) else {
+        return Words::Bad;
+    };
+    let Lengths::Of(a, b) = read_strings(line, shape, room) else {
+        return Words::Bad;
+    };
+    Words::Of(n, a, b)
+}
+
 // How long the byte strings of a line are, 0 for one that its shape has not.
-pub enum Lengths {
+enum Lengths {
     Of(usize, usize),
     Bad,
 }
 
 // Puts the byte strings of a line at the start of `room`, the second behind the first.
-pub fn read_strings(line: &[u8], shape: Shape, room: &mut [u8]) -> Lengths {
+fn read_strings(line: &[u8], shape: Shape, room: &mut [u8]) -> Lengths {
     let Bytes::Of(n) = string_at(line, shape.first_string, room, 0) else {
         return Lengths::Bad;
     };
@@ -98,13 +127,13 @@ pub struct Numbers {
     pub seventh: u64,
 }
 
-pub enum ReadNumbers {
+enum ReadNumbers {
     Of(Numbers),
     Bad,
 }
 
 // Reads the numbers of a line, which has to have as many words as its shape.
-pub fn read_numbers(line: &[u8], shape: Shape) -> ReadNumbers {
+fn read_numbers(line: &[u8], shape: Shape) -> ReadNumbers {
     let mut n = [0u64; 8];
     if !fill_numbers(line, shape, &mut n) {
         return ReadNumbers::Bad;
@@ -144,5 +173,16 @@ fn number_at(line: &[u8], shape: Shape, i: usize) -> Number {
     if i == shape.second_string {
         return Number::Of(0);
     }
-    script::parse_number(script::word(line, i))
+    let number = script::parse_number(script::word(line, i));
+    if i == shape.flag {
+        return flag(number);
+    }
+    number
+}
+
+fn flag(number: Number) -> Number {
+    let Number::Of(n) = number else {
+        return number;
+    };
+    if n > 1 { Number::Bad } else { number }
 }

@@ -9,11 +9,11 @@ use Rattle.replay.proofs.run.run_script.Statement.{statement}
 use Rattle.replay.proofs.run.run_script.Tie as tie
 
 abbrev Inv-loop : tie.InvT-loop
-Inv-loop text room₀ image₀ buf₀ progress₀ at₀ room image buf progress at =
-    (length room ≡ length room₀) × (length image ≡ length image₀) × (length buf ≡ length buf₀)
+Inv-loop text room₀ output₀ image₀ buf₀ progress₀ at₀ room output image buf progress at =
+    (length room ≡ length room₀) × (length output ≡ length output₀) × (length image ≡ length image₀) × (length buf ≡ length buf₀)
 
 abbrev μ-loop : tie.MeasureT-loop
-μ-loop text room₀ image₀ buf₀ progress₀ at₀ room image buf progress at = length text - at
+μ-loop text room₀ output₀ image₀ buf₀ progress₀ at₀ room output image buf progress at = length text - at
 
 -- a line does not end before it starts
 ends-behind : (c : tie.After-line-end Inv-loop μ-loop) → c .before .before .loop .at ≤ c .line-end .result
@@ -41,7 +41,9 @@ add-at : tie.Need-add-at Inv-loop μ-loop
 add-at c = search needs
 
 loop-less : tie.Need-loop-less Inv-loop μ-loop
-loop-less c = omega (arith, ends-behind (c .before .before .before .before .before .before .before .before .before .before .before))
+loop-less c =
+    omega
+    (arith, ends-behind (c .before .before .before .before .before .before .before .before .before .before .before .before .before .before))
 
 loop-again : tie.Need-loop-again Inv-loop μ-loop
 loop-again c = search needs
@@ -54,6 +56,9 @@ same-length-2 c = search needs
 
 same-length-3 : tie.Need-same-length-3 Inv-loop μ-loop
 same-length-3 c = search needs
+
+same-length-4 : tie.Need-same-length-4 Inv-loop μ-loop
+same-length-4 c = search needs
 
 returns : tie.Need-returns Inv-loop μ-loop
 returns c = search needs
@@ -76,4 +81,5 @@ run-script-spec =
     same-length
     same-length-2
     same-length-3
+    same-length-4
     returns)

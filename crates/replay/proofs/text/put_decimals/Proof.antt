@@ -1,17 +1,17 @@
--- `replay::output::put_decimals` is safe and ends: it reads within `numbers`, one place further each turn, and `buf` keeps its length.
+-- `replay::text::put_decimals` is safe and ends: it reads within `numbers`, one place further each turn, and `buf` keeps its length.
 -- Assumes nothing.
 use borrow.Author.Needs.{needs}
 use mathlib.Core.Path.{_≡_}
 use Prim.Native.Nat.{_≤_, _-_}
 use lib.ListN.{length}
-use Rattle.replay.proofs.output.put_decimals.Statement.{statement}
-use Rattle.replay.proofs.output.put_decimals.Tie as tie
+use Rattle.replay.proofs.text.put_decimals.Statement.{statement}
+use Rattle.replay.proofs.text.put_decimals.Tie as tie
 
 abbrev Inv-loop : tie.InvT-loop
-Inv-loop buf₀ len numbers count at₀ i₀ buf at i = (length buf ≡ length buf₀) × (i ≤ length numbers)
+Inv-loop buf₀ len numbers count between at₀ i₀ buf at i = (length buf ≡ length buf₀) × (i ≤ length numbers)
 
 abbrev μ-loop : tie.MeasureT-loop
-μ-loop buf₀ len numbers count at₀ i₀ buf at i = length numbers - i
+μ-loop buf₀ len numbers count between at₀ i₀ buf at i = length numbers - i
 
 loop-holds : tie.Need-loop-holds Inv-loop μ-loop
 loop-holds c = search needs
@@ -22,8 +22,8 @@ same-length c = search needs
 returns : tie.Need-returns Inv-loop μ-loop
 returns c = search needs
 
-put-space-before-requires : tie.Need-put-space-before-requires Inv-loop μ-loop
-put-space-before-requires c κs = search needs
+put-between-requires : tie.Need-put-between-requires Inv-loop μ-loop
+put-between-requires c κs = search needs
 
 mul-put-decimal : tie.Need-mul-put-decimal Inv-loop μ-loop
 mul-put-decimal c = search needs
@@ -58,7 +58,7 @@ put-decimals-spec =
     loop-holds
     same-length
     returns
-    put-space-before-requires
+    put-between-requires
     mul-put-decimal
     shared-slice-read-put-decimal
     put-decimal-requires

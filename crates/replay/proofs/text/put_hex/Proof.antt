@@ -1,11 +1,11 @@
--- `replay::output::put_hex` is safe and ends: it reads within `bytes`, one place further each turn, and `buf` keeps its length.
+-- `replay::text::put_hex` is safe and ends: it reads within `bytes`, one place further each turn, and `buf` keeps its length.
 -- Assumes nothing.
 use borrow.Author.Needs.{needs}
 use mathlib.Core.Path.{_≡_}
 use Prim.Native.Nat.{_≤_, _-_}
 use lib.ListN.{length}
-use Rattle.replay.proofs.output.put_hex.Statement.{statement}
-use Rattle.replay.proofs.output.put_hex.Tie as tie
+use Rattle.replay.proofs.text.put_hex.Statement.{statement}
+use Rattle.replay.proofs.text.put_hex.Tie as tie
 
 abbrev Inv-loop : tie.InvT-loop
 Inv-loop buf₀ len bytes at₀ i₀ buf at i = (length buf ≡ length buf₀) × (i ≤ length bytes)
