@@ -12,20 +12,20 @@ use types.Run.{OneOf}
 use Rattle.refusal.specs.Table.{unsound}
 use Rattle.refusal.specs.Demand.{demand}
 use Rattle.refusal.specs.declared.Refusal.{Refusal}
-use Rattle.refusal.specs.declared.Verdict as Answer
-use Rattle.refusal.specs.declared.Verdict.the-variants as Verdict
 use Rattle.refusal.proofs.Laws.{granted}
 use Rattle.format.specs.declared.element.V2ElementHeader.{V2ElementHeader}
 use Rattle.format.specs.declared.element.ParsedHeader.{ParsedHeader}
 use Rattle.format.specs.declared.element.ParsedHeader.the-variants as Parsed
+use Rattle.queue.specs.Answers.{onHeader}
 use Rattle.queue.specs.Element.{capacity, headerAt, footerVerdict, elementHere, Lies}
 use Rattle.queue.specs.State.{sound}
-use Rattle.queue.specs.Iter.{stepIf, stepHere, stepOn, judgeStep, steppedOutput}
+use Rattle.queue.specs.Iter.{stepHere, stepOn, judgeStep, steppedOutput}
 use Rattle.queue.specs.declared.state.QueueFile.{QueueFile}
 use Rattle.queue.specs.declared.iter.Cursor.{Cursor}
 use Rattle.queue.specs.declared.iter.Step.{Step}
 use Rattle.queue.specs.declared.iter.Stepped.{Stepped}
 use Rattle.queue.specs.declared.iter.Stepped.the-variants.{Element, End, Refused}
+use Rattle.queue.proofs.AnswerLaws.{on-granted}
 use Rattle.queue.proofs.Variants.{not-first}
 use Rattle.queue.proofs.Sound.{sound-lengths}
 use Rattle.queue.proofs.Headers.{header-fits}
@@ -42,10 +42,6 @@ end-none e = let z : _≡_ {A = ℕ} 0 1 = cc in omega arith
 not-end : (b : Bool) (rest : Stepped) (s : Step) → cond b End rest ≡ Element s → rest ≡ Element s
 not-end true rest s e = absurd (end-none e)
 not-end false rest s e = e
-
-granted-same : (v : Answer.Verdict) (t s : Step) → stepIf v t ≡ Element s → t ≡ s
-granted-same Verdict.Granted t s e = cc e
-granted-same (Verdict.Refused r) t s e = absurd (refused-none e)
 
 -- an element whose header is read at a place of the ring lies in it
 pub header-lies :
@@ -69,12 +65,14 @@ Known len file room s = Lies len file (s .elem) × (s .elem .len ≤ room)
 on-known :
     (q : QueueFile) (img : List ℕ) (c : Cursor) (room : ℕ) (s : Step) (p : ParsedHeader) →
     sound q (length img) ≡ true → c .«next_elem_pos» < capacity (q .«file_len») → headerAt img (q .«file_len») (c .«next_elem_pos») ≡ p →
-    stepOn img (q .«file_len») c room p ≡ Element s → Known (length img) (q .«file_len») room s
+    onHeader Refused p (stepOn img (q .«file_len») c room) ≡ Element s → Known (length img) (q .«file_len») room s
 on-known q img c room s (Parsed.Refused r) b place h e = absurd (refused-none e)
 on-known q img c room s (Parsed.Header d) b place h e =
+    let here : Step = stepHere (q .«file_len») c d in
     let g = granted _ _ _ _ refused-none e in
-    let v : stepHere (q .«file_len») c d ≡ s =
-    granted-same (footerVerdict img (q .«file_len») (elementHere (c .«next_elem_pos») d)) (stepHere (q .«file_len») c d) s (g .1) in
+    let same : Element here ≡ Element s =
+    on-granted Refused (footerVerdict img (q .«file_len») (here .elem)) (Element here) (Element s) (λ r. refused-none) (g .1) .1 in
+    let v : here ≡ s = cc in
     subst (Known (length img) (q .«file_len») room) v (header-lies q img (c .«next_elem_pos») d b place h, leb-true _ _ (g .0))
 
 pub step-known : (q : QueueFile) (img : List ℕ) (c : Cursor) (room : ℕ) (s : Step) → judgeStep q img c room ≡ Element s → Known (length img) (q .«file_len») room s
@@ -82,7 +80,7 @@ unfolding judgeStep
 step-known q img c room s e =
     let file = q .«file_len» in
     let p = c .«next_elem_pos» in
-    let on : Stepped = stepOn img file c room (headerAt img file p) in
+    let on : Stepped = onHeader Refused (headerAt img file p) (stepOn img file c room) in
     let placed : Stepped = demand (ltb p (capacity file)) (Refused unsound) on in
     let a = granted (sound q (length img)) _ _ _ refused-none e in
     let b = granted (ltb p (capacity file)) (Refused unsound) on _ refused-none (not-end (leb (q .«elem_cnt») (c .«next_elem_index»)) placed s (a .1)) in

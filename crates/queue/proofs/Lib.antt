@@ -1,5 +1,6 @@
 pub mod Tests
 pub mod Variants
+pub mod AnswerLaws
 pub mod Steps
 pub mod Sound
 pub mod PlaceLaws

@@ -6,9 +6,8 @@ use Prim.Native.Nat.{ℕ, _-_, _^_, _≤_, _<_}
 use native.Mathlib.Omega.{arith}
 use lib.ListN.{length}
 use lib.Dec.{eqb}
-use borrow.Author.Tests.{ltb-true, leb-true, eqb-false, ne-eqb, not-true}
+use borrow.Author.Tests.{ltb-true, leb-true, ne-eqb}
 use Rattle.refusal.specs.declared.Refusal.{Refusal}
-use Rattle.refusal.specs.declared.Verdict as Answer
 use Rattle.refusal.specs.declared.Verdict.the-variants as Verdict
 use Rattle.refusal.proofs.Laws.{granted, refused}
 use Rattle.header.specs.Slot.{slotOffset}
@@ -24,9 +23,10 @@ use Rattle.format.specs.declared.element.ParsedHeader.{ParsedHeader}
 use Rattle.format.specs.declared.element.ParsedHeader.the-variants as Parsed
 use Rattle.ring.specs.declared.place.Placed.{Placed}
 use Rattle.ring.specs.declared.place.Placed.the-variants as Placed
+use Rattle.queue.specs.Answers.{onHeader, onPlace}
 use Rattle.queue.specs.Places.{toLogical}
 use Rattle.queue.specs.Element.{elementHere, headerInSequence}
-use Rattle.queue.specs.Opening.{stateIf, checkedState, openState, builtQueue, withEnds, fromPlace, fromHeader, fromHead, firstElement, openEnds, fromState, openQueue}
+use Rattle.queue.specs.Opening.{checkedState, openState, builtQueue, withEnds, fromHead, firstElement, openEnds, fromState, openQueue}
 use Rattle.queue.specs.declared.element.Element.{Element}
 use Rattle.queue.specs.declared.state.Settings.{Settings}
 use Rattle.queue.specs.declared.state.QueueFile.{QueueFile}
@@ -34,7 +34,8 @@ use Rattle.queue.specs.declared.recover.Recovered as Recovery
 use Rattle.queue.specs.declared.recover.Recovered.the-variants as Recovered
 use Rattle.queue.specs.declared.opening.Opened.{Opened}
 use Rattle.queue.specs.declared.opening.Opened.the-variants.{Queue, Refused}
-use Rattle.queue.proofs.Sound.{Lengths}
+use Rattle.queue.proofs.AnswerLaws.{on-granted}
+use Rattle.queue.proofs.Sound.{not-zero, Lengths}
 
 -- ---- where a slot stands
 
@@ -69,11 +70,10 @@ slot-known d real e =
     let g = granted _ _ _ _ refused (b .1) in
     let empty = checkEmpty (d .«first_position») (d .«last_position») in
     let pointers = checkPointers (d .«first_position») (d .«last_position») (d .«file_length») in
-    let n : d .«next_sequence_number» ≡ 0 → ⊥ = eqb-false (d .«next_sequence_number») 0 (not-true _ (g .0)) in
     record {
       start = leb-true _ _ (a .0);
       inside = leb-true _ _ (b .0);
-      next = omega (arith, n);
+      next = not-zero (d .«next_sequence_number») (g .0);
       ring =
           λ some. pointers-ring (d .«first_position») (d .«last_position») (d .«file_length»)
           (sym (ap (λ (t : Bool). cond t empty pointers) (ne-eqb _ _ some)) ∙ g .1);
@@ -85,16 +85,14 @@ no-slot : {r : Refusal} {o : V2OpenState} → Elected.Refused r ≡ Elected.Slot
 no-slot e = let z : _≡_ {A = ℕ} 0 1 = cc in omega arith
 
 -- it is the elected one, whose check granted it
-if-granted : (v : Answer.Verdict) (s o : V2OpenState) → stateIf v s ≡ Elected.Slot o → (v ≡ Verdict.Granted) × (s ≡ o)
-if-granted Verdict.Granted s o e = (refl, cc)
-if-granted (Verdict.Refused r) s o e = absurd (no-slot e)
-
 checked-granted : (e : Election.Elected) (real : ℕ) (o : V2OpenState) → checkedState e real ≡ Elected.Slot o → checkSlot (o .slot) real ≡ Verdict.Granted
 unfolding checkedState
 checked-granted (Elected.Refused r) real o h = absurd (no-slot h)
 checked-granted (Elected.Slot s) real o h =
-    let k = if-granted (checkSlot (s .slot) real) s o h in
-    ap (λ (t : V2OpenState). checkSlot (t .slot) real) (sym (k .1)) ∙ k .0
+    let k = on-granted Elected.Refused (checkSlot (s .slot) real) (Elected.Slot s) (Elected.Slot o) (λ r. no-slot) h in
+    let slot : Elected.Slot s ≡ Elected.Slot o = k .1 in
+    let same : s ≡ o = cc in
+    ap (λ (t : V2OpenState). checkSlot (t .slot) real) (sym same) ∙ k .0
 
 -- with what opening itself asks of the real length
 pub record Holds (len real : ℕ) (o : V2OpenState) : Type 0 where
@@ -130,11 +128,11 @@ keeps-ends q first last q′ e =
     let w : withEnds q first last ≡ q′ = cc in
     sym w ∙ ap (λ (t : QueueFile). withEnds q (t .first) (t .last)) w
 
-keeps-place : (q : QueueFile) (p : Placed) (next : ℕ → Opened) → ((x : ℕ) → Keeps q (next x)) → Keeps q (fromPlace p next)
+keeps-place : (q : QueueFile) (p : Placed) (next : ℕ → Opened) → ((x : ℕ) → Keeps q (next x)) → Keeps q (onPlace Refused p next)
 keeps-place q (Placed.Refused r) next k = keeps-refused q r
 keeps-place q (Placed.At x) next k = k x
 
-keeps-header : (q : QueueFile) (p : ParsedHeader) (next : V2ElementHeader → Opened) → ((h : V2ElementHeader) → Keeps q (next h)) → Keeps q (fromHeader p next)
+keeps-header : (q : QueueFile) (p : ParsedHeader) (next : V2ElementHeader → Opened) → ((h : V2ElementHeader) → Keeps q (next h)) → Keeps q (onHeader Refused p next)
 keeps-header q (Parsed.Refused r) next k = keeps-refused q r
 keeps-header q (Parsed.Header h) next k = k h
 

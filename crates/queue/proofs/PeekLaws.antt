@@ -11,17 +11,16 @@ use types.Run.{OneOf}
 use Rattle.refusal.specs.Table.{outputTooSmall}
 use Rattle.refusal.specs.Demand.{demand}
 use Rattle.refusal.specs.declared.Refusal.{Refusal}
-use Rattle.refusal.specs.declared.Verdict as Answer
-use Rattle.refusal.specs.declared.Verdict.the-variants as Verdict
 use Rattle.refusal.proofs.Laws.{granted}
 use Rattle.queue.specs.Element.{footerVerdict, Lies}
 use Rattle.queue.specs.State.{sound}
-use Rattle.queue.specs.Peek.{fitPeek, peekIf, checkPeek, peekedOutput, peekedPart}
+use Rattle.queue.specs.Peek.{fitPeek, checkPeek, peekedOutput, peekedPart}
 use Rattle.queue.specs.declared.state.QueueFile.{QueueFile}
 use Rattle.queue.specs.declared.peek.Peeked as Peek
 use Rattle.queue.specs.declared.peek.Peeked.the-variants as Peeked
 use Rattle.queue.specs.declared.peek.PeekedPlace as Place
 use Rattle.queue.specs.declared.peek.PeekedPlace.the-variants as InPlace
+use Rattle.queue.proofs.AnswerLaws.{on-granted}
 use Rattle.queue.proofs.Variants.{not-first}
 use Rattle.queue.proofs.Sound.{first-lies}
 use Rattle.queue.proofs.peek.Peeked.{the-type as peeked}
@@ -45,13 +44,10 @@ fit-known q len room n e =
     let b : rest ≡ Peeked.Payload n = sym (ap (λ (t : Bool). cond t Peeked.Empty rest) (ne-eqb _ _ some)) ∙ a .1 in
     (first-lies q len (a .0) some, leb-true _ _ (granted _ _ _ _ refused-none b .0))
 
-granted-same : (v : Answer.Verdict) (p : Peek.Peeked) (n : ℕ) → peekIf v p ≡ Peeked.Payload n → p ≡ Peeked.Payload n
-granted-same Verdict.Granted p n e = e
-granted-same (Verdict.Refused r) p n e = absurd (refused-none e)
-
 -- a payload that is checked was one before
 pub checked-same : (img : List ℕ) (q : QueueFile) (p : Peek.Peeked) (n : ℕ) → checkPeek img q p ≡ Peeked.Payload n → p ≡ Peeked.Payload n
-checked-same img q (Peeked.Payload m) n e = granted-same (footerVerdict img (q .«file_len») (q .first)) (Peeked.Payload m) n e
+checked-same img q (Peeked.Payload m) n e =
+    on-granted Peeked.Refused (footerVerdict img (q .«file_len») (q .first)) (Peeked.Payload m) (Peeked.Payload n) (λ r. refused-none) e .1
 checked-same img q Peeked.Empty n e = e
 checked-same img q (Peeked.Refused r) n e = e
 

@@ -94,8 +94,9 @@ last-lies q len e n =
       span = p .last-span;
     }
 
-some : (n : ℕ) → not (eqb n 0) ≡ true → 0 < n
-some n e = omega (arith, eqb-false n 0 (not-true (eqb n 0) e))
+-- what is not 0 is above it
+pub not-zero : (n : ℕ) → not (eqb n 0) ≡ true → 0 < n
+not-zero n e = omega (arith, eqb-false n 0 (not-true (eqb n 0) e))
 
 pub numbers-known : (q : QueueFile) → soundNumbers q ≡ true → Numbers q
 unfolding soundNumbers
@@ -104,7 +105,7 @@ numbers-known q e =
     let b = and-eq-true-iff _ _ .0 (a .1) in
     let d = and-eq-true-iff _ _ .0 (b .1) in
     record {
-      next-some = some (q .format .«next_seq») (a .0);
+      next-some = not-zero (q .format .«next_seq») (a .0);
       next-small = ltb-true _ _ (b .0);
       generation = ltb-true _ _ (d .0);
       count = ltb-true _ _ (d .1);

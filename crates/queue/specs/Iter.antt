@@ -7,14 +7,11 @@ use lib.Dec.{ltb, leb}
 use Rattle.refusal.specs.Table.{none, unsound, outputTooSmall}
 use Rattle.refusal.specs.Demand.{demand}
 use Rattle.refusal.specs.declared.Refusal.{Refusal}
-use Rattle.refusal.specs.declared.Verdict as Answer
-use Rattle.refusal.specs.declared.Verdict.the-variants as Verdict
 use Rattle.wire.specs.Wire.{putAt}
 use Rattle.ring.specs.Ring.{ringAdd}
 use Rattle.format.specs.Element.{elementSpan}
 use Rattle.format.specs.declared.element.V2ElementHeader.{V2ElementHeader}
-use Rattle.format.specs.declared.element.ParsedHeader.{ParsedHeader}
-use Rattle.format.specs.declared.element.ParsedHeader.the-variants as Parsed
+use Rattle.queue.specs.Answers.{onHeader, onVerdict}
 use Rattle.queue.specs.Element.{capacity, elementHere, headerAt, payloadAt, footerVerdict}
 use Rattle.queue.specs.State.{sound}
 use Rattle.queue.specs.declared.state.QueueFile.{QueueFile}
@@ -41,16 +38,12 @@ stepHere file c h =
           cursorAt (c .«next_elem_index» + 1) (ringAdd (capacity file) (c .«next_elem_pos») (elementSpan (h .«payload_len»)));
     }
 
-abbrev pub stepIf : Answer.Verdict → Step → Stepped
-stepIf Verdict.Granted s = Element s
-stepIf (Verdict.Refused r) s = Refused r
-
 -- 29 for an output of `room` bytes that is too small, and then the footer
-abbrev pub stepOn : List ℕ → ℕ → Cursor → ℕ → ParsedHeader → Stepped
-stepOn img file c room (Parsed.Refused r) = Refused r
-stepOn img file c room (Parsed.Header h) =
+abbrev pub stepOn : List ℕ → ℕ → Cursor → ℕ → V2ElementHeader → Stepped
+stepOn img file c room h =
     demand (leb (h .«payload_len») room) (Refused outputTooSmall)
-    (stepIf (footerVerdict img file (elementHere (c .«next_elem_pos») h)) (stepHere file c h))
+    (onVerdict Refused (footerVerdict img file (elementHere (c .«next_elem_pos») h))
+    (Element (stepHere file c h)))
 
 -- 28, then the end at the count, whatever the place; 28 for a place that is not in the ring; then the header
 unfoldable pub judgeStep : QueueFile → List ℕ → Cursor → ℕ → Stepped
@@ -58,7 +51,7 @@ judgeStep q img c room =
     demand (sound q (length img)) (Refused unsound)
     (cond (leb (q .«elem_cnt») (c .«next_elem_index»)) End
     (demand (ltb (c .«next_elem_pos») (capacity (q .«file_len»))) (Refused unsound)
-    (stepOn img (q .«file_len») c room (headerAt img (q .«file_len») (c .«next_elem_pos»)))))
+    (onHeader Refused (headerAt img (q .«file_len») (c .«next_elem_pos»)) (stepOn img (q .«file_len») c room))))
 
 -- the output then: the payload at its front, or what it was
 abbrev pub steppedOutput : Stepped → List ℕ → ℕ → List ℕ → List ℕ

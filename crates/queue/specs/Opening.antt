@@ -7,10 +7,6 @@ use lib.Dec.{ltb, leb, eqb}
 use Rattle.refusal.specs.Table.{none, unsound, notASlot}
 use Rattle.refusal.specs.Demand.{demand}
 use Rattle.refusal.specs.declared.Refusal.{Refusal}
-use Rattle.refusal.specs.declared.Verdict as Answer
-use Rattle.refusal.specs.declared.Verdict.the-variants as Verdict
-use Rattle.ring.specs.declared.place.Placed.{Placed}
-use Rattle.ring.specs.declared.place.Placed.the-variants as Placed
 use Rattle.header.specs.Slot.{slotOffset, parseSlot}
 use Rattle.header.specs.declared.HeaderSlot.{HeaderSlot}
 use Rattle.header.specs.declared.HeaderSlot.the-variants.{A, B}
@@ -18,12 +14,12 @@ use Rattle.header.specs.declared.SlotData.{SlotData}
 use Rattle.header.specs.declared.ParsedSlot as Read
 use Rattle.header.specs.declared.ParsedSlot.the-variants as Slot
 use Rattle.format.specs.Slots.{electSlot, checkSlot}
-use Rattle.format.specs.declared.element.V2ElementHeader.{V2ElementHeader}
 use Rattle.format.specs.declared.element.ParsedHeader.{ParsedHeader}
 use Rattle.format.specs.declared.element.ParsedHeader.the-variants as Parsed
 use Rattle.format.specs.declared.slots.V2OpenState.{V2OpenState}
 use Rattle.format.specs.declared.slots.Elected as Election
 use Rattle.format.specs.declared.slots.Elected.the-variants as Elected
+use Rattle.queue.specs.Answers.{onHeader, onPlace, onVerdict}
 use Rattle.queue.specs.Places.{toLogical}
 use Rattle.queue.specs.Element.{element, elementHere, headerAt, headerInSequence}
 use Rattle.queue.specs.Recover.{recoverHead}
@@ -44,13 +40,9 @@ triedSlot img real which =
     (parseSlot (take 56 (drop (slotOffset which) img)))
 
 -- what it says has to be possible
-abbrev pub stateIf : Answer.Verdict → V2OpenState → Election.Elected
-stateIf Verdict.Granted o = Elected.Slot o
-stateIf (Verdict.Refused r) o = Elected.Refused r
-
 unfoldable pub checkedState : Election.Elected → ℕ → Election.Elected
 checkedState (Elected.Refused r) real = Elected.Refused r
-checkedState (Elected.Slot o) real = stateIf (checkSlot (o .slot) real) o
+checkedState (Elected.Slot o) real = onVerdict Elected.Refused (checkSlot (o .slot) real) (Elected.Slot o)
 
 -- 28 for a real length above the image's or not below 2^63
 unfoldable pub openState : List ℕ → ℕ → Election.Elected
@@ -94,15 +86,7 @@ withEnds q first last =
 
 -- ---- its ends
 
--- the state goes on from a place, from a header, from an element, or is refused there
-abbrev pub fromPlace : Placed → (ℕ → Opened) → Opened
-fromPlace (Placed.Refused r) next = Refused r
-fromPlace (Placed.At p) next = next p
-
-abbrev pub fromHeader : ParsedHeader → (V2ElementHeader → Opened) → Opened
-fromHeader (Parsed.Refused r) next = Refused r
-fromHeader (Parsed.Header h) next = next h
-
+-- an element that is found is the head, or its refusal is the answer
 abbrev pub fromHead : Recovery.Recovered → (Element → Opened) → Opened
 fromHead (Recovered.Refused r) next = Refused r
 fromHead (Recovered.Head e) next = next e
@@ -118,9 +102,9 @@ firstElement img file p last n = orRecovered (headerAt img file p) p (recoverHea
 -- the header at last has to be valid, with the sequence before the next one
 unfoldable pub openEnds : List ℕ → QueueFile → SlotData → Opened
 openEnds img q d =
-    fromPlace (toLogical (d .«first_position»)) (λ first.
-    fromPlace (toLogical (d .«last_position»)) (λ last.
-    fromHeader (headerInSequence img (q .«file_len») last (d .«next_sequence_number» - 1)) (λ h.
+    onPlace Refused (toLogical (d .«first_position»)) (λ first.
+    onPlace Refused (toLogical (d .«last_position»)) (λ last.
+    onHeader Refused (headerInSequence img (q .«file_len») last (d .«next_sequence_number» - 1)) (λ h.
     fromHead (firstElement img (q .«file_len») first (elementHere last h) (q .«elem_cnt»)) (λ e.
     Queue (withEnds q e (elementHere last h))))))
 

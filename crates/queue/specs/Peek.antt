@@ -8,10 +8,9 @@ use lib.Dec.{leb, eqb}
 use Rattle.refusal.specs.Table.{none, unsound, outputTooSmall, crossesEnd}
 use Rattle.refusal.specs.Demand.{demand}
 use Rattle.refusal.specs.declared.Refusal.{Refusal}
-use Rattle.refusal.specs.declared.Verdict as Answer
-use Rattle.refusal.specs.declared.Verdict.the-variants as Verdict
 use Rattle.wire.specs.Wire.{putAt}
 use Rattle.ring.specs.Ring.{ringAdd}
+use Rattle.queue.specs.Answers.{onVerdict}
 use Rattle.queue.specs.Element.{capacity, footerVerdict, Lies}
 use Rattle.queue.specs.State.{sound}
 use Rattle.queue.specs.declared.state.QueueFile.{QueueFile}
@@ -35,14 +34,10 @@ abbrev pub Fitting : QueueFile → ℕ → Peek.Peeked → Type 0
 Fitting q len p = (n : ℕ) → p ≡ Peeked.Payload n → Lies len (q .«file_len») (q .first)
 
 -- then the footer
-abbrev pub peekIf : Answer.Verdict → Peek.Peeked → Peek.Peeked
-peekIf Verdict.Granted p = p
-peekIf (Verdict.Refused r) p = Peeked.Refused r
-
 abbrev pub checkPeek : List ℕ → QueueFile → Peek.Peeked → Peek.Peeked
 checkPeek img q (Peeked.Refused r) = Peeked.Refused r
 checkPeek img q Peeked.Empty = Peeked.Empty
-checkPeek img q (Peeked.Payload n) = peekIf (footerVerdict img (q .«file_len») (q .first)) (Peeked.Payload n)
+checkPeek img q (Peeked.Payload n) = onVerdict Peeked.Refused (footerVerdict img (q .«file_len») (q .first)) (Peeked.Payload n)
 
 unfoldable pub judgePeek : QueueFile → List ℕ → ℕ → Peek.Peeked
 judgePeek q img room = checkPeek img q (fitPeek q (length img) room)
@@ -65,17 +60,13 @@ peekedRefusal (Peeked.Refused r) = r
 abbrev pub payloadStart : QueueFile → ℕ
 payloadStart q = ringAdd (capacity (q .«file_len»)) (q .first .pos) 28
 
-abbrev pub placeIf : Answer.Verdict → Place.PeekedPlace → Place.PeekedPlace
-placeIf Verdict.Granted p = p
-placeIf (Verdict.Refused r) p = InPlace.Refused r
-
 -- 28, then empty, then 33 where the payload crosses the ring's end, then the footer
 unfoldable pub judgePeekPlace : QueueFile → List ℕ → Place.PeekedPlace
 judgePeekPlace q img =
     demand (sound q (length img)) (InPlace.Refused unsound)
     (cond (eqb (q .«elem_cnt») 0) InPlace.Empty
     (demand (leb (payloadStart q + q .first .len) (capacity (q .«file_len»))) (InPlace.Refused crossesEnd)
-    (placeIf (footerVerdict img (q .«file_len») (q .first))
+    (onVerdict InPlace.Refused (footerVerdict img (q .«file_len») (q .first))
     (InPlace.Payload (record { offset = 8192 + payloadStart q; len = q .first .len })))))
 
 -- that part of the image, or no bytes

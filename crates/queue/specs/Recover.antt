@@ -8,25 +8,11 @@ use Rattle.refusal.specs.Table.{none, unsound, backlinkZero, recoveryEmpty, rec
 use Rattle.refusal.specs.Demand.{demand}
 use Rattle.refusal.specs.declared.Refusal.{Refusal}
 use Rattle.ring.specs.Ring.{hasRing}
-use Rattle.ring.specs.declared.place.Placed.{Placed}
-use Rattle.ring.specs.declared.place.Placed.the-variants as Placed
-use Rattle.format.specs.declared.element.V2ElementHeader.{V2ElementHeader}
-use Rattle.format.specs.declared.element.ParsedHeader.{ParsedHeader}
-use Rattle.format.specs.declared.element.ParsedHeader.the-variants as Parsed
+use Rattle.queue.specs.Answers.{onHeader, onPlace}
 use Rattle.queue.specs.Places.{toLogical}
 use Rattle.queue.specs.Element.{elementHere, headerInSequence}
 use Rattle.queue.specs.declared.recover.Recovered.{Recovered}
 use Rattle.queue.specs.declared.recover.Recovered.the-variants.{Head, Refused}
-
--- a header that is refused stops the walk; from any other it goes on
-abbrev pub onHeader : ParsedHeader → (V2ElementHeader → Recovered) → Recovered
-onHeader (Parsed.Refused r) next = Refused r
-onHeader (Parsed.Header h) next = next h
-
--- the same of a place
-abbrev pub onPlace : Placed → (ℕ → Recovered) → Recovered
-onPlace (Placed.Refused r) next = Refused r
-onPlace (Placed.At p) next = next p
 
 -- with no step left to make the answer, else the rest
 abbrev pub atLast : ℕ → Recovered → Recovered → Recovered
@@ -35,14 +21,14 @@ atLast (suc left) answer rest = rest
 
 -- on at the place that a backlink names: 18 where it is 0, 19 from 1 to 8191
 abbrev pub goBack : ℕ → (ℕ → Recovered) → Recovered
-goBack link next = demand (not (eqb link 0)) (Refused backlinkZero) (onPlace (toLogical link) next)
+goBack link next = demand (not (eqb link 0)) (Refused backlinkZero) (onPlace Refused (toLogical link) next)
 
 -- step s at the place p, with `left` steps after it, which go on as `rest`: the header's sequence is the tail's less s; at the last
 -- step the answer is the place, not reduced, with its header's length and sequence, and the backlink there is not judged
 abbrev pub recoverStep : List ℕ → ℕ → ℕ → ℕ → ℕ → ℕ → (ℕ → Recovered) → Recovered
 recoverStep img file tailSeq left s p rest =
     demand (leb s tailSeq) (Refused recoverySequence)
-    (onHeader (headerInSequence img file p (tailSeq - s)) (λ h.
+    (onHeader Refused (headerInSequence img file p (tailSeq - s)) (λ h.
     atLast left (Head (elementHere p h))
     (goBack (h .«prev_pos») rest)))
 

@@ -13,6 +13,7 @@ use Rattle.format.specs.Element.{elementSpan}
 use Rattle.format.specs.declared.element.V2ElementHeader.{V2ElementHeader}
 use Rattle.format.specs.declared.element.ParsedHeader.{ParsedHeader}
 use Rattle.format.specs.declared.element.ParsedHeader.the-variants as Parsed
+use Rattle.queue.specs.Answers.{onHeader, onVerdict}
 use Rattle.queue.specs.Element.{capacity, elementHere, headerInSequence, footerVerdict}
 use Rattle.queue.specs.State.{sound}
 use Rattle.queue.specs.Opening.{openQueue}
@@ -23,37 +24,31 @@ use Rattle.queue.specs.declared.opening.Opened.the-variants.{Queue, Refu
 
 -- ---- one element
 
-abbrev pub headerIf : Answer.Verdict → V2ElementHeader → ParsedHeader
-headerIf Verdict.Granted h = Parsed.Header h
-headerIf (Verdict.Refused r) h = Parsed.Refused r
-
 -- the backlink that is asked for, and then the footer
-abbrev pub linkedElement : List ℕ → ℕ → ℕ → ℕ → ParsedHeader → ParsedHeader
-linkedElement img file p link (Parsed.Refused r) = Parsed.Refused r
-linkedElement img file p link (Parsed.Header h) =
+abbrev pub linkedElement : List ℕ → ℕ → ℕ → ℕ → V2ElementHeader → ParsedHeader
+linkedElement img file p link h =
     demand (eqb (h .«prev_pos») link) (Parsed.Refused brokenLink)
-    (headerIf (footerVerdict img file (elementHere p h)) h)
+    (onVerdict Parsed.Refused (footerVerdict img file (elementHere p h))
+    (Parsed.Header h))
 
 -- header, sequence, backlink, footer, in this order
 unfoldable pub strictElement : List ℕ → ℕ → ℕ → ℕ → ℕ → ParsedHeader
-strictElement img file p seq link = linkedElement img file p link (headerInSequence img file p seq)
+strictElement img file p seq link = onHeader Parsed.Refused (headerInSequence img file p seq) (linkedElement img file p link)
 
 -- ---- all of them
 
-abbrev pub onElement : ParsedHeader → (V2ElementHeader → Answer.Verdict) → Answer.Verdict
-onElement (Parsed.Refused r) next = Verdict.Refused r
-onElement (Parsed.Header h) next = next h
+-- the element at the place p has that sequence and that backlink, and with `spans` bytes before it stays within the capacity; the rest
+-- goes on behind it, with one sequence more and its physical place as backlink
+abbrev pub trailStep : List ℕ → ℕ → ℕ → ℕ → ℕ → ℕ → (ℕ → ℕ → ℕ → ℕ → Answer.Verdict) → Answer.Verdict
+trailStep img file p seq link spans rest =
+    onHeader Verdict.Refused (strictElement img file p seq link) (λ h.
+    demand (leb (spans + elementSpan (h .«payload_len»)) (capacity file)) (Verdict.Refused unsound)
+    (rest (ringAdd (capacity file) p (elementSpan (h .«payload_len»))) (seq + 1) (8192 + p) (spans + elementSpan (h .«payload_len»))))
 
--- the elements that are left, from the place p on: the first of them has that sequence and that backlink, and `spans` bytes lie before
--- it. Each of the others has one sequence more than the one before and its physical place as backlink; the spans stay within the
--- capacity; and the last of all stands where the state's last does
+-- the elements that are left; behind the last of all, the place before is that of the state's last
 unfoldable pub trailFrom : List ℕ → ℕ → ℕ → ℕ → ℕ → ℕ → ℕ → ℕ → Answer.Verdict
 trailFrom img file last zero p seq link spans = demand (eqb link (8192 + last)) (Verdict.Refused brokenLink) Verdict.Granted
-trailFrom img file last (suc left) p seq link spans =
-    onElement (strictElement img file p seq link) (λ h.
-    demand (leb (spans + elementSpan (h .«payload_len»)) (capacity file)) (Verdict.Refused unsound)
-    (trailFrom img file last left (ringAdd (capacity file) p (elementSpan (h .«payload_len»))) (seq + 1) (8192 + p)
-    (spans + elementSpan (h .«payload_len»))))
+trailFrom img file last (suc left) p seq link spans = trailStep img file p seq link spans (trailFrom img file last left)
 
 -- the backlink of the first element of a whole trail
 abbrev pub firstLink : ℕ
@@ -67,13 +62,9 @@ checkTrail q img =
 
 -- ---- opening
 
-abbrev pub openedIf : Answer.Verdict → QueueFile → Opened
-openedIf Verdict.Granted q = Queue q
-openedIf (Verdict.Refused r) q = Refused r
-
 abbrev pub strictly : List ℕ → Opened → Opened
 strictly img (Refused r) = Refused r
-strictly img (Queue q) = demand (sound q (length img)) (Refused unsound) (openedIf (checkTrail q img) q)
+strictly img (Queue q) = demand (sound q (length img)) (Refused unsound) (onVerdict Refused (checkTrail q img) (Queue q))
 
 unfoldable pub openStrictly : List ℕ → ℕ → Settings → Opened
 openStrictly img real settings = strictly img (openQueue img real settings)

@@ -1,7 +1,7 @@
 // The queue of a V2 file: its state, which is a value, and what is done with it over a byte image that the caller lends.
 //
 // The real length is the file's and stands in the state; the image may be longer. Where a state is not sound over its image, every
-// operation on it answers 28.
+// call that reads the image by it answers 28, and `peek_part` lends no bytes.
 mod element;
 mod iter;
 mod opening;

@@ -51,7 +51,7 @@ fn read_slot(image: &[u8], real_len: u64, which: HeaderSlot) -> ParsedSlot
     header::parse_slot(wire::part(image, offset as usize, V2_SLOT_LEN as usize))
 }
 
-// The slot that holds in a file of that real length, which may be what it says.
+// The slot that holds in a file of that real length, where such a file can be what it says.
 fn read_v2_open_state(image: &[u8], real_len: u64) -> Elected
     ensures { λ r. ⌜ r ≡ openState (now (image .entry)) «real_len» ⌝ }
 {
@@ -148,8 +148,8 @@ fn initialize_v2_endpoints(q: QueueFile, image: &[u8], slot: SlotData) -> Opened
     })
 }
 
-// Opens the file of that real length at the image's front. An empty queue has no ends. The state need not be sound: an element that is
-// damaged behind its header, or a recovered place past the ring's end, is for later calls to refuse.
+// Opens the file of that real length at the image's front. An empty queue has no ends. The state need not be sound: used bytes above
+// the file length, and a recovered place past the ring's end, are for later calls to refuse.
 pub fn open(image: &[u8], real_len: u64, settings: Settings) -> Opened
     ensures { λ r. ⌜ r ≡ openQueue (now (image .entry)) «real_len» settings ⌝ }
 {

@@ -1,4 +1,5 @@
-// Places of the ring: those that a file's pointers and backlinks name, and those that are reckoned in a ring that is known to be there.
+// Places of the ring: those that a file's pointers and backlinks name, and those that are reckoned in a ring that is known to be there,
+// where the ring's own calls refuse nothing: what stands for a refusal is never answered.
 ghost use mathlib.Core.Path.{_≡_};
 ghost use Prim.Native.Nat.{_+_, _-_, _^_, _≤_, _<_};
 ghost use Rattle.ring.specs.Ring.{ringAdd, ringDistance};

@@ -5,7 +5,9 @@ use denote.Ref.{now}
 use borrow.Author.Needs.{needs}
 use borrow.Author.Tests.{eq-eqb, ne-eqb}
 use Rattle.refusal.specs.Demand.{demand}
-use Rattle.queue.specs.Strict.{headerIf, strictElement}
+use Rattle.format.specs.declared.element.ParsedHeader.the-variants as Parsed
+use Rattle.queue.specs.Answers.{onVerdict}
+use Rattle.queue.specs.Strict.{strictElement}
 use Rattle.queue.proofs.Headers.{sequence-fits}
 use Rattle.queue.proofs.strict.strict_element.Statement.{statement}
 use Rattle.queue.proofs.strict.strict_element.Tie as tie
@@ -53,7 +55,8 @@ enum-known-refusal c = search needs
 footer-decides : (v : tie.After-validate-footer) →
     let q = v .before .before .before .before .before in
     let a = q .before .before .before .before .args in
-    headerIf (v .validate-footer .result) (q .parsed .given .0 .0) ≡ strictElement (now (a .image)) (a .file-len) (a .pos) (a .seq) (a .link)
+    onVerdict Parsed.Refused (v .validate-footer .result) (Parsed.Header (q .parsed .given .0 .0))
+    ≡ strictElement (now (a .image)) (a .file-len) (a .pos) (a .seq) (a .link)
 unfolding strictElement demand
 footer-decides v =
     let e = v .before in

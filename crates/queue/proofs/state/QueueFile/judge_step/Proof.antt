@@ -8,8 +8,10 @@ use borrow.Author.Needs.{needs}
 use borrow.Author.Tests.{le-leb, lt-leb, lt-ltb}
 use Rattle.refusal.proofs.Laws.{decide, met, unmet, flag-yes}
 use Rattle.refusal.specs.Demand.{demand}
+use Rattle.queue.specs.Answers.{onVerdict}
 use Rattle.queue.specs.Element.{Lies}
-use Rattle.queue.specs.Iter.{stepIf, stepHere, judgeStep}
+use Rattle.queue.specs.Iter.{stepHere, judgeStep}
+use Rattle.queue.specs.declared.iter.Stepped.the-variants.{Element, Refused}
 use Rattle.queue.proofs.Sound.{sound-lengths}
 use Rattle.queue.proofs.IterLaws.{header-lies}
 use Rattle.queue.proofs.state.QueueFile.judge_step.Statement.{statement}
@@ -109,7 +111,7 @@ enum-known-refusal c = search needs
 footer-decides : (checked : tie.After-validate-footer) →
     let known = checked .before .before .before .before .before in
     let a = known .before .before .before .before .before .before .before .before .before .before .before .before .args in
-    stepIf (checked .validate-footer .result) (stepHere (a .self .«file_len») (a .cursor) (known .parsed .given .0 .0))
+    onVerdict Refused (checked .validate-footer .result) (Element (stepHere (a .self .«file_len») (a .cursor) (known .parsed .given .0 .0)))
     ≡ judgeStep (a .self) (now (a .image)) (a .cursor) (a .room)
 unfolding judgeStep demand
 footer-decides checked =

@@ -9,7 +9,8 @@ use borrow.Author.Needs.{needs}
 use borrow.Author.Tests.{eq-eqb, ne-eqb, lt-leb, le-leb}
 use Rattle.refusal.proofs.Laws.{decide, met, unmet, flag-yes}
 use Rattle.refusal.specs.Demand.{demand}
-use Rattle.queue.specs.Peek.{placeIf, judgePeekPlace}
+use Rattle.queue.specs.Answers.{onVerdict}
+use Rattle.queue.specs.Peek.{judgePeekPlace}
 use Rattle.queue.specs.declared.peek.PeekedPlace.the-variants as InPlace
 use Rattle.queue.proofs.Sound.{first-lies}
 use Rattle.queue.proofs.state.QueueFile.peek_place.Statement.{statement}
@@ -74,7 +75,7 @@ enum-known-refusal c = search needs
 footer-decides : (checked : tie.After-validate-footer) →
     let call = checked .before .before .before .before in
     let a = call .before .before .before .before .before .before .before .args in
-    placeIf (checked .validate-footer .result)
+    onVerdict InPlace.Refused (checked .validate-footer .result)
     (InPlace.Payload (record { offset = 8192 + call .add .result; len = a .self .first .len }))
     ≡ judgePeekPlace (a .self) (now (a .image))
 unfolding judgePeekPlace demand
