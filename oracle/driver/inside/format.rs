@@ -41,6 +41,10 @@ pub fn parse_v2_element_header(
     super::parse_v2_element_header(hdr, logical_pos, capacity)
 }
 
+pub fn read_v2_element_header(ring: &DataRing<'_>, logical_pos: u64) -> Result<V2ElementHeader> {
+    super::read_v2_element_header(ring, logical_pos)
+}
+
 pub fn encode_v2_footer(seq: u64, payload: &[u8]) -> [u8; V2_ELEM_FTR_LEN] {
     super::encode_v2_footer(seq, payload)
 }

@@ -14,8 +14,21 @@ pub mod qio {
     pub use crate::qio::{DataRing, DataRingMut, QueueFileInner};
 }
 
-/// A queue opened, made and read.
+/// A new file as upstream lays it.
+pub mod factory {
+    use std::fs::File;
+
+    use crate::error::Result;
+
+    pub fn init_v2_file(file: &mut File) -> Result<()> {
+        crate::factory::init_v2_file(file)
+    }
+}
+
+/// A queue opened, made, read and written.
 pub mod queue {
+    use std::mem;
+
     use crate::element::Element;
     use crate::error::Result;
     use crate::format::{read_v2_open_state, FormatState, V2ElementHeader, V2Format, V2OpenState};
@@ -50,11 +63,44 @@ pub mod queue {
         active_slot: HeaderSlot,
         slot: SlotData,
         [first, last]: [Element; 2],
+        (capacity, overwrite_on_remove): (u64, bool),
     ) -> QueueFile {
         let open_state = V2OpenState { active_slot, slot, elem_cnt: slot.element_count as usize };
-        let mut queue = QueueFile::build_v2_queue_file(inner, open_state, 0, false);
+        let mut queue =
+            QueueFile::build_v2_queue_file(inner, open_state, capacity, overwrite_on_remove);
         (queue.first, queue.last) = (first, last);
         queue
+    }
+
+    /// The file back out of a queue that is done with.
+    pub fn into_inner(mut queue: QueueFile) -> QueueFileInner {
+        let spent = QueueFileInner {
+            file: None,
+            file_len: 0,
+            expected_seek: 0,
+            last_seek: None,
+            transfer_buf: Box::default(),
+            sync_writes: false,
+            deferred_sync_phase: None,
+        };
+        mem::replace(&mut queue.inner, spent)
+    }
+
+    /// The set capacity as upstream keeps it.
+    pub fn capacity(queue: &QueueFile) -> u64 {
+        queue.capacity
+    }
+
+    pub fn sync_header(queue: &mut QueueFile) -> Result<()> {
+        queue.sync_header()
+    }
+
+    pub fn expand_if_necessary(queue: &mut QueueFile, data_len: u64) -> Result<()> {
+        queue.expand_if_necessary(data_len)
+    }
+
+    pub fn compute_expanded_len(current_len: u64, remaining_bytes: u64, data_len: u64) -> u64 {
+        QueueFile::compute_expanded_len(current_len, remaining_bytes, data_len)
     }
 
     pub fn endpoints(queue: &QueueFile) -> [Element; 2] {

@@ -1,23 +1,57 @@
 //! Answers a script, and holds the one table of operations.
 
 use std::io::{self, BufWriter, Read, Write};
+use std::panic::{self, AssertUnwindSafe};
 
-use crate::language::{self, SCRIPT_LIMIT};
-use crate::operations::{checksum, elements, file_headers, opening, reading, ring, setup, slots};
-use crate::run::Run;
+use crate::language::{self, BAD, SCRIPT_LIMIT};
+use crate::notes::Notes;
+use crate::operations::{
+    checksum, elements, file_headers, opening, reading, ring, setup, slots, writing,
+};
+use crate::run::{Run, PANICS};
 
-/// Reads a script up to the limit and prints one line for each operation.
-pub fn answer(script: impl Read, answers: impl Write) -> io::Result<()> {
+/// Reads a script up to the limit and prints one line for each operation. Returns what the lines
+/// came upon.
+pub fn answer(script: impl Read, answers: impl Write) -> io::Result<Notes> {
+    answer_by(Run::new(false), script, answers, |run, line| answered(run, line))
+}
+
+/// The same, but what the upstream code does is told as it is, also where the port refuses.
+pub fn answer_raw(script: impl Read, answers: impl Write) -> io::Result<()> {
+    panic::set_hook(Box::new(|_| ()));
+    let caught = |run: &mut Run, line: &[u8]| {
+        let answer = panic::catch_unwind(AssertUnwindSafe(|| answered(run, line)));
+        answer.unwrap_or_else(|_| PANICS.to_string())
+    };
+    answer_by(Run::new(true), script, answers, caught).map(drop)
+}
+
+fn answer_by(
+    mut run: Run,
+    script: impl Read,
+    answers: impl Write,
+    answered: impl Fn(&mut Run, &[u8]) -> String,
+) -> io::Result<Notes> {
     let mut text = Vec::new();
     script.take(SCRIPT_LIMIT as u64).read_to_end(&mut text)?;
 
     let mut answers = BufWriter::new(answers);
-    let mut run = Run::new();
     for line in language::lines(&text) {
-        let answer = operation(&mut run, &language::words(line));
-        writeln!(answers, "{}", answer.as_deref().unwrap_or("bad"))?;
+        writeln!(answers, "{}", answered(&mut run, line))?;
     }
-    answers.flush()
+    answers.flush()?;
+    Ok(run.notes)
+}
+
+/// The answer to a line that is neither empty nor a comment.
+pub fn answered(run: &mut Run, line: &[u8]) -> String {
+    run.notes.next_line();
+    let words = language::words(line);
+    let answer = operation(run, &words);
+    if answer.is_some() {
+        run.notes.count_line(words[0], answer.as_deref());
+    }
+    answer.unwrap_or_else(|| BAD.to_string())
 }
 
 /// Runs the operation that the first word names, if the number of words is right and each is good.
@@ -45,6 +79,13 @@ fn operation(run: &mut Run, words: &[&[u8]]) -> Option<String> {
         [b"image", bytes, capacity, overwrite] => opening::image(run, bytes, capacity, overwrite),
         [b"reopen", capacity, overwrite] => opening::reopen(run.queue()?, capacity, overwrite),
         [b"strict", capacity, overwrite] => opening::strict(run.queue()?, capacity, overwrite),
+        [b"fresh", len, capacity, overwrite] => writing::fresh(run, len, capacity, overwrite),
+        [b"add", payload] => writing::add(run.queue()?, payload),
+        [b"remove", n] => writing::remove(run.queue()?, n),
+        [b"clear"] => writing::clear(run.queue()?),
+        [b"commit"] => writing::commit(run.queue()?),
+        [b"grow", span] => writing::grow(run.queue()?, span),
+        [b"grow_length", len, remaining, span] => writing::grow_length(run, len, remaining, span),
         [b"recover", place, seq, n] => opening::recover(run.queue()?, place, seq, n),
         [b"used"] => reading::used(run.queue()?),
         [b"peek"] => reading::peek(run.queue()?),

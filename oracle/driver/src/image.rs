@@ -6,8 +6,9 @@ use std::io;
 use std::os::unix::fs::FileExt;
 
 use queue_file::inside::header::{self, V2_DATA_START};
-use queue_file::inside::qio::{DataRingMut, QueueFileInner};
+use queue_file::inside::qio::{DataRing, DataRingMut, QueueFileInner};
 
+use crate::live::{self, Live};
 use crate::scratch;
 
 /// The buffer's length. The file has it from the start and keeps it, so that bytes beyond the real
@@ -18,12 +19,15 @@ pub struct Image {
     queue: QueueFileInner,
     /// The file that is opened: as long as the real length, with the image's bytes.
     opened: File,
+    /// The file that is written, while a queue object lives.
+    live: Live,
 }
 
 impl Image {
     /// An image of zeros.
     pub fn new() -> Self {
-        let image = Self { queue: scratch::queue(), opened: scratch::nameless_file() };
+        let (queue, opened) = (scratch::queue(), scratch::nameless_file());
+        let image = Self { queue, opened, live: Live::new() };
         image.with_file(|file| file.set_len(IMAGE_LEN));
         image
     }
@@ -31,9 +35,16 @@ impl Image {
     /// The upstream ring at this file length. What an earlier call noted of the file's cursor is
     /// forgotten, so that each call stands alone.
     pub fn ring(&mut self, file_len: u64) -> DataRingMut<'_> {
+        self.live.falls_behind();
         self.queue.file_len = file_len;
         self.queue.last_seek = None;
         DataRingMut::new(&mut self.queue, V2_DATA_START)
+    }
+
+    /// The same, to be read only.
+    pub fn ring_to_read(&mut self, file_len: u64) -> DataRing<'_> {
+        self.queue.file_len = file_len;
+        DataRing::new(&self.queue, V2_DATA_START)
     }
 
     /// The whole buffer in the upstream code's hands.
@@ -50,13 +61,46 @@ impl Image {
         scratch::held(self.opened.try_clone().expect("the scratch file serves"), real_len)
     }
 
+    /// A new queue object: no cursor is noted.
+    pub fn begin_anew(&mut self) {
+        self.live.begin_anew();
+    }
+
+    /// The image up to its real length, or to the buffer's end, to be written: the live object's
+    /// file, and where its cursor is.
+    pub fn lend(&mut self, real_len: u64) -> (QueueFileInner, live::Cursor) {
+        let queue = &self.queue;
+        let mut inner = self.live.lend(|| bytes_of(queue, real_len.min(IMAGE_LEN)));
+        let cursor = live::cursor(&mut inner);
+        (inner, cursor)
+    }
+
+    /// Takes over what was written and returns the file's length. Bytes beyond it stay.
+    pub fn keep(&mut self, inner: QueueFileInner) -> u64 {
+        let (len, bytes) = live::contents(&inner, IMAGE_LEN);
+        self.with_file(|file| file.write_all_at(&bytes, 0));
+        self.live.keep(inner);
+        len
+    }
+
+    /// Leaves the image as it is, whatever was written to the file that had its real length, and
+    /// returns whether that was anything.
+    pub fn put_back(&mut self, inner: QueueFileInner, cursor: live::Cursor, real_len: u64) -> bool {
+        let (len, bytes) = live::contents(&inner, IMAGE_LEN);
+        let changed = len != real_len || self.bytes(len) != bytes;
+        self.live.put_back(inner, cursor);
+        changed
+    }
+
     /// Changes these bytes, which end within the image.
     pub fn store(&mut self, offset: u64, bytes: &[u8]) {
+        self.live.falls_behind();
         self.with_file(|file| file.write_all_at(bytes, offset));
     }
 
     /// These bytes, which fit, and zeros behind them.
     pub fn replace(&mut self, bytes: &[u8]) {
+        self.live.falls_behind();
         self.with_file(|file| {
             file.set_len(0)?;
             file.set_len(IMAGE_LEN)?;
@@ -69,15 +113,28 @@ impl Image {
         header::crc32(&self.bytes(real_len.min(IMAGE_LEN)))
     }
 
-    fn bytes(&self, len: u64) -> Vec<u8> {
-        let mut bytes = vec![0; len as usize];
-        self.with_file(|file| file.read_exact_at(&mut bytes, 0));
+    /// These bytes, which end within the image.
+    pub fn read(&self, offset: u64, len: usize) -> Vec<u8> {
+        let mut bytes = vec![0; len];
+        self.with_file(|file| file.read_exact_at(&mut bytes, offset));
         bytes
+    }
+
+    fn bytes(&self, len: u64) -> Vec<u8> {
+        bytes_of(&self.queue, len)
     }
 
     fn with_file(&self, act: impl FnOnce(&File) -> io::Result<()>) {
         self.queue.file_ref().and_then(act).expect("the scratch file serves");
     }
+}
+
+/// The buffer's first bytes.
+fn bytes_of(queue: &QueueFileInner, len: u64) -> Vec<u8> {
+    let mut bytes = vec![0; len as usize];
+    let read = queue.file_ref().and_then(|file| file.read_exact_at(&mut bytes, 0));
+    read.expect("the scratch file serves");
+    bytes
 }
 
 #[cfg(test)]

@@ -15,6 +15,8 @@ pub const OUTPUT_LIMIT: usize = 65_536;
 pub const NO_BYTES: &str = "-";
 /// What the driver answers where the Rust has nothing to compare with.
 pub const SKIP: &str = "skip";
+/// What both sides answer to a line that is no operation.
+pub const BAD: &str = "bad";
 
 /// The lines that are answered: all but empty ones and comments.
 pub fn lines(script: &[u8]) -> impl Iterator<Item = &[u8]> {

@@ -6,6 +6,8 @@ mod answer;
 mod compare;
 mod image;
 mod language;
+mod live;
+mod notes;
 mod operations;
 mod random;
 mod refusals;
@@ -20,7 +22,9 @@ use std::path::Path;
 use std::process::ExitCode;
 use std::{env, fs, io};
 
-const USAGE: &str = "answer | scripts FAMILY SEED FOLDER | compare PORT RUST | refusals | \
+use notes::Notes;
+
+const USAGE: &str = "answer [NOTES] | raw | coverage NOTES.. | scripts FAMILY SEED FOLDER | compare PORT RUST | refusals | \
                      images SCRIPT ANSWERS | samples FOLDER";
 
 fn main() -> ExitCode {
@@ -28,7 +32,10 @@ fn main() -> ExitCode {
     let words: Vec<&str> = arguments.iter().map(String::as_str).collect();
 
     let done = match words[..] {
-        ["answer"] => answer::answer(io::stdin(), io::stdout()).map(|()| true),
+        ["answer"] => answer::answer(io::stdin(), io::stdout()).map(|_| true),
+        ["answer", notes] => answer_with_notes(Path::new(notes)),
+        ["raw"] => answer::answer_raw(io::stdin(), io::stdout()).map(|()| true),
+        ["coverage", ref notes @ ..] => tell_coverage(notes),
         ["scripts", family, seed, folder] => write_scripts(family, seed, Path::new(folder)),
         ["compare", port, rust] => compare_files(Path::new(port), Path::new(rust)),
         ["refusals"] => count_refusals(io::stdin()),
@@ -56,6 +63,24 @@ fn write_scripts(family: &str, seed: &str, folder: &Path) -> io::Result<bool> {
     for (index, script) in scripts.iter().enumerate() {
         fs::write(folder.join(format!("{:04}.script", index + 1)), script)?;
     }
+    Ok(true)
+}
+
+/// Leaves what the lines came upon in a file.
+fn answer_with_notes(notes: &Path) -> io::Result<bool> {
+    let noted = answer::answer(io::stdin(), io::stdout())?;
+    fs::write(notes, noted.to_string())?;
+    Ok(true)
+}
+
+/// Says what the lines of several scripts came upon, by the notes that were left.
+fn tell_coverage(notes: &[&str]) -> io::Result<bool> {
+    let mut sum = Notes::default();
+    for path in notes {
+        let unknown = || io::Error::new(io::ErrorKind::InvalidData, "these are no notes");
+        sum.read(&fs::read(path)?).ok_or_else(unknown)?;
+    }
+    println!("{}", sum.told());
     Ok(true)
 }
 

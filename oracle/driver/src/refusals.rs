@@ -51,25 +51,30 @@ const TEXTS: &[(&str, u64, u64)] = &[
 /// The refusal that an upstream error stands for. An error that is not known here ends the run: a
 /// guessed number would be compared as if the Rust had said it.
 pub fn refusal(error: &Error) -> Refusal {
+    numbered(error).unwrap_or_else(|| panic!("no number is known for the error: {error}"))
+}
+
+/// The same, or `None` for an error that has no number.
+pub fn numbered(error: &Error) -> Option<Refusal> {
     match error {
         Error::CorruptedFile { msg } | Error::InvalidValue { msg } | Error::OutOfBounds { msg } => {
             by_text(msg)
         }
         Error::SequenceMismatch { expected, found } => {
-            Refusal { number: 17, first: *expected, second: *found }
+            Some(Refusal { number: 17, first: *expected, second: *found })
         }
         Error::UnsupportedVersion { detected, .. } => {
-            Refusal { number: 23, first: u64::from(*detected), second: 0 }
+            Some(Refusal { number: 23, first: u64::from(*detected), second: 0 })
         }
-        unknown => panic!("no number is known for the error: {unknown}"),
+        Error::ElementTooBig => Some(Refusal { number: 24, first: 0, second: 0 }),
+        Error::TooManyElements => Some(Refusal { number: 25, first: 0, second: 0 }),
+        _ => None,
     }
 }
 
-fn by_text(text: &str) -> Refusal {
-    match TEXTS.iter().find(|(beginning, ..)| text.starts_with(beginning)) {
-        Some(&(_, number, first)) => Refusal { number, first, second: 0 },
-        None => panic!("no number is known for the text: {text}"),
-    }
+fn by_text(text: &str) -> Option<Refusal> {
+    let known = TEXTS.iter().find(|(beginning, ..)| text.starts_with(beginning));
+    known.map(|&(_, number, first)| Refusal { number, first, second: 0 })
 }
 
 impl fmt::Display for Refusal {
@@ -113,14 +118,20 @@ mod tests {
     }
 
     #[test]
-    #[should_panic(expected = "the text: v2 element")]
+    #[should_panic(expected = "the error: corrupted file: v2 element")]
     fn a_text_that_is_not_known_ends_the_run() {
         refusal(&corrupted("v2 element"));
     }
 
     #[test]
-    #[should_panic(expected = "the error: too many elements")]
+    #[should_panic(expected = "the error: magic mismatch")]
     fn an_error_that_is_not_known_ends_the_run() {
-        refusal(&Error::TooManyElements);
+        refusal(&Error::MagicMismatch { expected: 1, found: 2 });
+    }
+
+    #[test]
+    fn what_an_add_refuses_is_told() {
+        assert_eq!(refusal(&Error::ElementTooBig).to_string(), "24 0 0");
+        assert_eq!(refusal(&Error::TooManyElements).to_string(), "25 0 0");
     }
 }

@@ -3,6 +3,7 @@
 
 use std::cell::RefCell;
 use std::fs::{self, File};
+use std::path::PathBuf;
 use std::sync::atomic::{AtomicUsize, Ordering};
 use std::{env, process};
 
@@ -51,11 +52,22 @@ pub fn held(file: File, file_len: u64) -> QueueFileInner {
 pub fn nameless_file() -> File {
     static MADE: AtomicUsize = AtomicUsize::new(0);
     let nth = MADE.fetch_add(1, Ordering::Relaxed);
-    let path = env::temp_dir().join(format!("oracle-{}-{nth}", process::id()));
+    let path = folder().join(format!("oracle-{}-{nth}", process::id()));
     let file = File::options().read(true).write(true).create_new(true).open(&path);
     let file = file.unwrap_or_else(|error| panic!("{}: {error}", path.display()));
     fs::remove_file(&path).expect("the scratch file's name is taken away");
     file
+}
+
+/// In memory where the system has a place for it: the upstream code waits for the disk whenever a
+/// file's length changes.
+fn folder() -> PathBuf {
+    let in_memory = PathBuf::from("/dev/shm");
+    if in_memory.is_dir() {
+        in_memory
+    } else {
+        env::temp_dir()
+    }
 }
 
 #[cfg(test)]

@@ -13,7 +13,7 @@ use crate::language::{number, numbers, spell_numbers};
 use crate::operations::slots::spell_name;
 
 /// The state, whatever its numbers are.
-#[derive(Clone, Copy)]
+#[derive(Clone, Copy, Debug, PartialEq)]
 pub struct State {
     pub slot: HeaderSlot,
     pub generation: u64,
@@ -89,6 +89,10 @@ impl State {
         }
     }
 
+    pub fn settings(&self) -> Settings {
+        Settings { capacity: self.capacity, overwrite: self.overwrite }
+    }
+
     /// The upstream queue that is in this state, over this file.
     pub fn upstream(&self, inner: QueueFileInner) -> QueueFile {
         let endpoints = [self.first, self.last];
@@ -102,7 +106,8 @@ impl State {
             generation: self.generation,
             next_sequence_number: self.next_seq,
         };
-        queue::with_endpoints(inner, self.slot, slot, endpoints.map(Element::upstream))
+        let settings = (self.capacity, self.overwrite);
+        queue::with_endpoints(inner, self.slot, slot, endpoints.map(Element::upstream), settings)
     }
 
     /// Whether the numbers fit each other and the image. Where they do not, the port refuses; the
@@ -136,6 +141,14 @@ impl State {
         self.file_len - V2_DATA_START
     }
 
+    /// The bytes that are left, in a sound state.
+    pub fn remaining(&self) -> u64 {
+        match self.count {
+            0 => self.ring_len(),
+            _ => self.ring_len() - self.distance() - self.last.span(),
+        }
+    }
+
     /// From first on to last, both in the ring.
     fn distance(&self) -> u64 {
         let (from, to) = (self.first.pos, self.last.pos);
@@ -149,6 +162,11 @@ impl Element {
 
     pub fn of(element: inside::Element) -> Self {
         Self { pos: element.pos, len: element.len as u64, seq: element.seq }
+    }
+
+    /// Of an element whose length is sound.
+    pub fn span(self) -> u64 {
+        self.len + V2_ELEM_OVERHEAD
     }
 
     fn upstream(self) -> inside::Element {
@@ -253,9 +271,8 @@ mod tests {
     fn an_upstream_queue_has_the_state_it_was_made_of() {
         let given = "B 6 8324 9000 3 5 44 1 2 0 44 4 8192 1";
         let state = State::read(&words(given.as_bytes())).unwrap();
-        let settings = Settings { capacity: state.capacity, overwrite: state.overwrite };
         let queue = state.upstream(crate::scratch::queue());
-        assert_eq!(State::of(&queue, state.real_len, settings).to_string(), given);
+        assert_eq!(State::of(&queue, state.real_len, state.settings()).to_string(), given);
     }
 
     #[test]

@@ -4,12 +4,15 @@
 
 pub mod checksum;
 pub mod elements;
+pub mod fault;
 pub mod file_headers;
+pub mod judging;
 pub mod opening;
 pub mod reading;
 pub mod ring;
 pub mod setup;
 pub mod slots;
+pub mod writing;
 
 use std::fmt::Display;
 

@@ -14,9 +14,9 @@ use crate::state::{Settings, State};
 pub fn image(run: &mut Run, hex: &[u8], capacity: &[u8], overwrite: &[u8]) -> Option<String> {
     let (bytes, settings) = (bytes(hex)?, Settings::read(capacity, overwrite)?);
     run.image.replace(&bytes);
-    match opened(&run.image, bytes.len() as u64, settings) {
+    match opened(&run.image, bytes.len() as u64, settings, run.raw) {
         Ok(state) => {
-            run.state = Some(state);
+            run.begin_anew(state);
             Some(run.queue()?.accepted(""))
         }
         Err(error) => {
@@ -32,9 +32,10 @@ pub fn reopen(queue: Queue<'_>, capacity: &[u8], overwrite: &[u8]) -> Option<Str
     if queue.state.real_len > IMAGE_LEN {
         return Some(SKIP.to_string());
     }
-    Some(match opened(queue.image, queue.state.real_len, settings) {
+    Some(match opened(queue.image, queue.state.real_len, settings, queue.raw) {
         Ok(state) => {
             *queue.state = state;
+            queue.image.begin_anew();
             queue.accepted("")
         }
         Err(error) => queue.refused(refusal(&error)),
@@ -52,7 +53,7 @@ pub fn strict(_: Queue<'_>, capacity: &[u8], overwrite: &[u8]) -> Option<String>
 pub fn recover(queue: Queue<'_>, place: &[u8], seq: &[u8], n: &[u8]) -> Option<String> {
     let (place, seq, n) = (number(place)?, number(seq)?, u32::try_from(number(n)?).ok()?);
     let file_len = queue.state.file_len;
-    if !(V2_DATA_START < file_len && file_len <= IMAGE_LEN) {
+    if !queue.may(V2_DATA_START < file_len && file_len <= IMAGE_LEN) {
         return Some(SKIP.to_string());
     }
     Some(match queue::recover_v2_head(&queue.upstream(), place, seq, n as usize) {
@@ -61,10 +62,13 @@ pub fn recover(queue: Queue<'_>, place: &[u8], seq: &[u8], n: &[u8]) -> Option<S
     })
 }
 
-fn opened(image: &Image, real_len: u64, settings: Settings) -> Result<State> {
+/// The set capacity is the one given, or the one that the upstream code keeps where nothing is
+/// judged.
+pub fn opened(image: &Image, real_len: u64, settings: Settings, raw: bool) -> Result<State> {
     let inner = image.held_to_be_opened(real_len);
     let queue = queue::open(inner, real_len, settings.capacity, settings.overwrite)?;
-    Ok(State::of(&queue, real_len, settings))
+    let capacity = if raw { queue::capacity(&queue) } else { settings.capacity };
+    Ok(State::of(&queue, real_len, Settings { capacity, ..settings }))
 }
 
 #[cfg(test)]

@@ -26,9 +26,13 @@ pub fn peek_into(queue: Queue<'_>, len: &[u8]) -> Option<String> {
     let len = output_len(len)?;
     Some(on_sound(queue, |queue| {
         let mut output = vec![0; len];
-        fits(queue, len).then(|| {
-            let found = queue.upstream().peek_into(&mut output);
-            peeked(queue, found.map(|found| found.then(|| output)))
+        fits(queue, len).then(|| match queue.upstream().peek_into(&mut output) {
+            // The upstream code has filled its output all the same.
+            Err(error) if queue.raw => {
+                let answer = format!("{} {}", output.len(), spell_crc(header::crc32(&output)));
+                queue.line(refusal(&error), answer)
+            }
+            found => peeked(queue, found.map(|found| found.then(|| output))),
         })
     }))
 }
@@ -64,7 +68,7 @@ pub fn step(queue: Queue<'_>, index: &[u8], place: &[u8], len: &[u8]) -> Option<
     Some(on_sound(queue, |queue| {
         let upstream = queue.upstream();
         let at_end = index >= u64::from(queue.state.count);
-        if !at_end && pos >= queue.state.ring_len() {
+        if !queue.may(at_end || pos < queue.state.ring_len()) {
             return None;
         }
         match Step::at(&upstream, Cursor { index: index as usize, pos }, len) {
@@ -146,12 +150,12 @@ fn peeked(queue: &Queue<'_>, returned: Result<Option<Vec<u8>>, Error>) -> String
 
 /// Whether an output of this length holds the first payload, if there is one.
 fn fits(queue: &Queue<'_>, output_len: usize) -> bool {
-    queue.state.count == 0 || queue.state.first.len <= output_len as u64
+    queue.may(queue.state.count == 0 || queue.state.first.len <= output_len as u64)
 }
 
 /// The line for what is answered on a sound state; `skip` on any other, or where nothing is.
 fn on_sound(queue: Queue<'_>, act: impl FnOnce(&Queue<'_>) -> Option<String>) -> String {
-    let answered = queue.state.is_sound().then(|| act(&queue)).flatten();
+    let answered = queue.may(queue.state.is_sound()).then(|| act(&queue)).flatten();
     answered.unwrap_or_else(|| SKIP.to_string())
 }
 

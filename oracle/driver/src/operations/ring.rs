@@ -20,17 +20,16 @@ pub const LONGEST_ERASED: u64 = 16 << 20;
 /// A sum that does not fit would wrap in the upstream code.
 pub fn ring_add(queue: Queue<'_>, place: &[u8], distance: &[u8]) -> Option<String> {
     let (place, distance) = (number(place)?, number(distance)?);
-    Some(on_ring(queue, |ring| {
-        let fits = place.checked_add(distance).is_some();
-        fits.then(|| ring.add(place, distance))
-    }))
+    let fits = queue.may(place.checked_add(distance).is_some());
+    Some(on_ring(queue, |ring| fits.then(|| ring.add(place, distance))))
 }
 
 /// The upstream code subtracts one place from the other, which is to be below the capacity.
 pub fn ring_distance(queue: Queue<'_>, from: &[u8], to: &[u8]) -> Option<String> {
     let (from, to) = (number(from)?, number(to)?);
+    let raw = queue.raw;
     Some(on_ring(queue, |ring| {
-        let both_in_ring = from.max(to) < ring.capacity();
+        let both_in_ring = raw || from.max(to) < ring.capacity();
         both_in_ring.then(|| ring.as_read_only().distance(from, to))
     }))
 }
@@ -65,18 +64,21 @@ pub fn ring_erase(queue: Queue<'_>, place: &[u8], len: &[u8]) -> Option<String> 
 /// The state's file length plays no part.
 pub fn relocate(queue: Queue<'_>, old_len: &[u8], count: &[u8]) -> Option<String> {
     let (old_len, count) = (number(old_len)?, number(count)?);
-    if !can_relocate(old_len, count) {
+    if !queue.may(can_relocate(old_len, count)) {
         return Some(SKIP.to_string());
     }
     let mut ring = queue.image.ring(queue.state.file_len);
-    ring.relocate(old_len, count).expect("the bytes are moved");
-    Some(queue.accepted(""))
+    let moved = ring.relocate(old_len, count);
+    Some(match moved {
+        Ok(()) => queue.accepted(""),
+        Err(error) => queue.refused_or_error(&error),
+    })
 }
 
 /// The line for what is answered on the ring; `skip` where there is no ring or no answer.
 fn on_ring<T: Display>(queue: Queue<'_>, act: impl FnOnce(DataRingMut<'_>) -> Option<T>) -> String {
     let file_len = queue.state.file_len;
-    let has_bytes = V2_DATA_START < file_len && file_len <= IMAGE_LEN;
+    let has_bytes = queue.may(V2_DATA_START < file_len && file_len <= IMAGE_LEN);
     match has_bytes.then(|| act(queue.image.ring(file_len))).flatten() {
         Some(answer) => queue.accepted(answer),
         None => SKIP.to_string(),

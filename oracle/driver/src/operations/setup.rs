@@ -11,7 +11,7 @@ const EXTENSION: u8 = 0xa5;
 
 /// The image keeps its bytes.
 pub fn state(run: &mut Run, words: &[&[u8]]) -> Option<String> {
-    run.state = Some(State::read(words)?);
+    run.begin_anew(State::read(words)?);
     Some(run.queue()?.accepted(""))
 }
 
