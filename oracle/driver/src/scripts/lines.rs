@@ -139,3 +139,31 @@ pub fn capacity(capacity: u64) -> Line {
 fn spell_settings(settings: Settings) -> String {
     format!("{} {}", settings.capacity, u8::from(settings.overwrite))
 }
+
+pub fn fresh(len: u64, settings: Settings) -> Line {
+    format!("fresh {len} {}", spell_settings(settings)).into_bytes()
+}
+
+pub fn add(payload: &[u8]) -> Line {
+    format!("add {}", spell_bytes(payload)).into_bytes()
+}
+
+pub fn remove(n: u64) -> Line {
+    format!("remove {n}").into_bytes()
+}
+
+pub fn clear() -> Line {
+    b"clear".to_vec()
+}
+
+pub fn commit() -> Line {
+    b"commit".to_vec()
+}
+
+pub fn grow(span: u64) -> Line {
+    format!("grow {span}").into_bytes()
+}
+
+pub fn grow_length(len: u64, remaining: u64, span: u64) -> Line {
+    format!("grow_length {len} {remaining} {span}").into_bytes()
+}

@@ -9,6 +9,7 @@ mod iterate;
 mod iterate_damaged;
 mod iterate_states;
 mod layouts;
+mod lengths;
 mod limits;
 mod lines;
 mod misspellings;
@@ -31,6 +32,8 @@ mod spellings;
 mod trails;
 mod whole;
 mod worked;
+mod write;
+mod writer;
 
 pub use worked::sample_images;
 
@@ -52,6 +55,8 @@ pub fn family(name: &str, seed: u64) -> Option<Vec<Script>> {
         "open" => Some(open::scripts(random)),
         "recover" => Some(recover::scripts(random)),
         "iterate" => Some(iterate::scripts(random)),
+        "write" => Some(write::scripts(random)),
+        "lengths" => Some(lengths::scripts(random)),
         "sample" => Some(sample::scripts(random)),
         _ => None,
     }
