@@ -3,6 +3,7 @@
 mod checksums;
 mod codec_sample;
 mod codec_spellings;
+mod damage;
 mod elements;
 mod file_headers;
 mod iterate;
@@ -56,6 +57,7 @@ pub fn family(name: &str, seed: u64) -> Option<Vec<Script>> {
         "recover" => Some(recover::scripts(random)),
         "iterate" => Some(iterate::scripts(random)),
         "write" => Some(write::scripts(random)),
+        "damage" => Some(damage::scripts(random)),
         "lengths" => Some(lengths::scripts(random)),
         "sample" => Some(sample::scripts(random)),
         _ => None,
