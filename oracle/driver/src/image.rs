@@ -113,13 +113,6 @@ impl Image {
         header::crc32(&self.bytes(real_len.min(IMAGE_LEN)))
     }
 
-    /// These bytes, which end within the image.
-    pub fn read(&self, offset: u64, len: usize) -> Vec<u8> {
-        let mut bytes = vec![0; len];
-        self.with_file(|file| file.read_exact_at(&mut bytes, offset));
-        bytes
-    }
-
     fn bytes(&self, len: u64) -> Vec<u8> {
         bytes_of(&self.queue, len)
     }

@@ -15,6 +15,7 @@ mod run;
 mod scratch;
 mod scripts;
 mod state;
+mod struck;
 mod tally;
 
 use std::io::Read;
@@ -24,8 +25,8 @@ use std::{env, fs, io};
 
 use notes::Notes;
 
-const USAGE: &str = "answer [NOTES] | raw | coverage NOTES.. | scripts FAMILY SEED FOLDER | compare PORT RUST | refusals | \
-                     images SCRIPT ANSWERS | samples FOLDER";
+const USAGE: &str = "answer [NOTES] | raw | coverage NOTES.. | sum NOTES.. | scripts FAMILY SEED FOLDER | compare PORT RUST | \
+                     struck PLAIN MENDED NOTES | refusals | images SCRIPT ANSWERS | samples FOLDER";
 
 fn main() -> ExitCode {
     let arguments: Vec<String> = env::args().skip(1).collect();
@@ -35,9 +36,11 @@ fn main() -> ExitCode {
         ["answer"] => answer::answer(io::stdin(), io::stdout()).map(|_| true),
         ["answer", notes] => answer_with_notes(Path::new(notes)),
         ["raw"] => answer::answer_raw(io::stdin(), io::stdout()).map(|()| true),
-        ["coverage", ref notes @ ..] => tell_coverage(notes),
+        ["coverage", ref notes @ ..] => tell_notes(notes, Notes::told),
+        ["sum", ref notes @ ..] => tell_notes(notes, Notes::summed),
         ["scripts", family, seed, folder] => write_scripts(family, seed, Path::new(folder)),
         ["compare", port, rust] => compare_files(Path::new(port), Path::new(rust)),
+        ["struck", plain, mended, notes] => hold_to_mended([plain, mended, notes].map(Path::new)),
         ["refusals"] => count_refusals(io::stdin()),
         ["images", script, answers] => list_images(Path::new(script), Path::new(answers)),
         ["samples", folder] => write_samples(Path::new(folder)),
@@ -74,14 +77,19 @@ fn answer_with_notes(notes: &Path) -> io::Result<bool> {
 }
 
 /// Says what the lines of several scripts came upon, by the notes that were left.
-fn tell_coverage(notes: &[&str]) -> io::Result<bool> {
+fn tell_notes(notes: &[&str], tell: impl Fn(&Notes) -> String) -> io::Result<bool> {
+    let paths: Vec<&Path> = notes.iter().map(Path::new).collect();
+    println!("{}", tell(&read_notes(&paths)?));
+    Ok(true)
+}
+
+fn read_notes(paths: &[&Path]) -> io::Result<Notes> {
     let mut sum = Notes::default();
-    for path in notes {
+    for path in paths {
         let unknown = || io::Error::new(io::ErrorKind::InvalidData, "these are no notes");
         sum.read(&fs::read(path)?).ok_or_else(unknown)?;
     }
-    println!("{}", sum.told());
-    Ok(true)
+    Ok(sum)
 }
 
 /// Says how many lines were equal, or where the first difference is.
@@ -90,6 +98,19 @@ fn compare_files(port: &Path, rust: &Path) -> io::Result<bool> {
         Ok(equal) => println!("lines={} skipped={}", equal.lines, equal.skipped),
         Err(difference) => {
             println!("{difference}");
+            return Ok(false);
+        }
+    }
+    Ok(true)
+}
+
+/// Says at how many lines the plain build's answers are as the known fault leaves them.
+fn hold_to_mended([plain, mended, notes]: [&Path; 3]) -> io::Result<bool> {
+    let noted = read_notes(&[notes])?;
+    match struck::struck(&fs::read(plain)?, &fs::read(mended)?, noted.strikes()) {
+        Ok(lines) => println!("struck={lines}"),
+        Err(fault) => {
+            println!("{fault}");
             return Ok(false);
         }
     }

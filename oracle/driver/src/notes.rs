@@ -83,15 +83,20 @@ impl Notes {
         Some(())
     }
 
-    /// All counts in one line: what is counted once in a line of text, `name count` by comma.
+    /// All counts in a line of text.
     pub fn told(&self) -> String {
         let (capacities, others): (Vec<_>, Vec<_>) =
             self.counts.iter().partition(|(name, _)| name.starts_with(CAPACITY));
         let mut told: Vec<String> =
             others.iter().map(|(name, times)| format!("{name} {times}")).collect();
         told.push(format!("different set capacities {}", capacities.len()));
-        told.push(format!("lines where the fault struck {}", self.strikes.len()));
         told.join(", ")
+    }
+
+    /// The counts as notes again; the lines of different scripts cannot be.
+    pub fn summed(&self) -> String {
+        let counts = Self { counts: self.counts.clone(), ..Self::default() };
+        counts.to_string().trim_end().to_string()
     }
 }
 
@@ -134,12 +139,12 @@ mod tests {
         assert_eq!(sum.to_string(), text);
         sum.read(text.as_bytes()).unwrap();
         assert_eq!((sum.times("line add"), sum.strikes()), (4, &[2, 2] as &[u64]));
+        assert_eq!(sum.summed(), "capacity 8192 2\ncapacity 9000 2\nline add 4");
         assert_eq!(sum.read(b"no number"), None);
     }
 
     #[test]
     fn different_capacities_are_told_by_their_number() {
-        let told = "line add 2, different set capacities 2, lines where the fault struck 1";
-        assert_eq!(noted().told(), told);
+        assert_eq!(noted().told(), "line add 2, different set capacities 2");
     }
 }

@@ -21,7 +21,6 @@ pub struct Writer {
 pub struct Header {
     pub pos: u64,
     pub len: u64,
-    pub seq: u64,
     pub backlink: u64,
     pub bytes: [u8; V2_ELEM_HDR_LEN],
 }
@@ -69,7 +68,7 @@ impl Writer {
             let mut bytes = [0; V2_ELEM_HDR_LEN];
             ring.read_at(pos, &mut bytes).expect("the ring is read");
             let len = header.payload_len as u64;
-            headers.push(Header { pos, len, seq: header.seq, backlink: header.prev_pos, bytes });
+            headers.push(Header { pos, len, backlink: header.prev_pos, bytes });
             pos = ring.add(pos, len + format::V2_ELEM_OVERHEAD);
         }
         headers
