@@ -138,7 +138,7 @@ mod tests {
         sum.read(text.as_bytes()).unwrap();
         assert_eq!(sum.to_string(), text);
         sum.read(text.as_bytes()).unwrap();
-        assert_eq!((sum.times("line add"), sum.strikes()), (4, &[2, 2] as &[u64]));
+        assert_eq!((sum.times("line add"), sum.strikes()), (4, &[2u64, 2][..]));
         assert_eq!(sum.summed(), "capacity 8192 2\ncapacity 9000 2\nline add 4");
         assert_eq!(sum.read(b"no number"), None);
     }

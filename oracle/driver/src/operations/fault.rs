@@ -45,12 +45,7 @@ fn start(state: &State, growth: Option<Growth>) -> u64 {
 /// The line of an add at which the fault strikes. Growth and add by themselves, with the cursor
 /// forgotten between them, are what the add should have been; the file that the add itself leaves
 /// has the element's bytes up to the ring's end where the cursor was, and all else as that.
-pub fn struck(
-    queue: Queue<'_>,
-    inner: QueueFileInner,
-    cursor: Cursor,
-    payload: &[u8],
-) -> String {
+pub fn struck(queue: Queue<'_>, inner: QueueFileInner, cursor: Cursor, payload: &[u8]) -> String {
     let before = *queue.state;
     let (returned, struck_state, inner) = performed(&before, inner, Call::Add(payload));
     returned.expect("an add at which the fault strikes succeeds");

@@ -68,8 +68,7 @@ impl Growth {
             return None;
         }
         let new_len = grown_len(state.file_len, remaining, span);
-        let none =
-            Self { new_len, wraps: false, moved: 0, moves_last: false, rewrites: false };
+        let none = Self { new_len, wraps: false, moved: 0, moves_last: false, rewrites: false };
         if state.count == 0 {
             return Some(none);
         }

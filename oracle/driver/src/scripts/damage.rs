@@ -199,10 +199,12 @@ fn around(good: &State) -> Vec<State> {
     for next_seq in [0, 1, LARGEST_I64 - 1, LARGEST_I64, LARGEST_I64 + 1, u64::MAX] {
         states.push(State { next_seq, ..*good });
     }
-    for generation in [0, LARGEST_I64 - 2, LARGEST_I64 - 1, LARGEST_I64, LARGEST_I64 + 1, u64::MAX] {
+    for generation in [0, LARGEST_I64 - 2, LARGEST_I64 - 1, LARGEST_I64, LARGEST_I64 + 1, u64::MAX]
+    {
         states.push(State { generation, ..*good });
     }
-    let counts = [1, good.count - 1, good.count + 1, LARGEST_I32 as u32 - 2, LARGEST_I32 as u32 - 1];
+    let counts =
+        [1, good.count - 1, good.count + 1, LARGEST_I32 as u32 - 2, LARGEST_I32 as u32 - 1];
     for count in counts.into_iter().chain([LARGEST_I32 as u32, LARGEST_I32 as u32 + 1]) {
         states.push(State { count, ..*good });
     }
@@ -221,7 +223,8 @@ fn around(good: &State) -> Vec<State> {
     }
     let empty = State { count: 0, first: NONE, last: NONE, ..*good };
     states.push(empty);
-    for odd in [Element { pos: 1, ..NONE }, Element { len: 1, ..NONE }, Element { seq: 1, ..NONE }] {
+    for odd in [Element { pos: 1, ..NONE }, Element { len: 1, ..NONE }, Element { seq: 1, ..NONE }]
+    {
         states.extend([State { first: odd, ..empty }, State { last: odd, ..empty }]);
     }
     states

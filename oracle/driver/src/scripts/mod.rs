@@ -35,6 +35,8 @@ mod whole;
 mod worked;
 mod write;
 mod writer;
+mod writing_sample;
+mod writing_spellings;
 
 pub use worked::sample_images;
 
@@ -94,15 +96,16 @@ fn joined(lines: &[Line]) -> Script {
 #[cfg(test)]
 mod tests {
     use super::*;
-    use crate::answer::answers;
+    use crate::answer::{answer, answers};
     use crate::language;
+    use crate::notes::Notes;
     use crate::tally::opened_images;
     use std::collections::BTreeSet;
 
     /// What each family but the first two is to reach: operation and number, with the field for 22;
     /// for an iteration the number that ended it.
     #[rustfmt::skip]
-    const REACHED: [(&str, &[&str]); 7] = [
+    const REACHED: [(&str, &[&str]); 10] = [
         ("slots", &[
             "slot_encode 0", "slot_encode 22 1", "slot_encode 22 2", "slot_encode 22 3",
             "slot_encode 22 4", "slot_parse 0", "slot_parse 31", "slot_parse skip",
@@ -158,6 +161,22 @@ mod tests {
             "reopen 17", "reopen skip", "state 0", "step 0", "step 2", "step 3", "step 4",
             "step 5", "step 6", "step 7", "step 8", "step 9", "step skip", "used 0", "used skip",
         ]),
+        ("lengths", &["grow_length 0", "grow_length skip"]),
+        ("write", &[
+            "add 0", "capacity 0", "clear 0", "commit 0", "extend 0", "fresh 0", "grow 0",
+            "grow skip", "image 0", "iterate end 0", "overwrite 0", "peek 0", "poke 0", "remove 0",
+            "reopen 0", "reopen 12", "reopen 2", "reopen 5", "state 0", "used 0",
+        ]),
+        ("damage", &[
+            "add 0", "add 2", "add 25", "add 3", "add 4", "add 5", "add 6", "add skip", "clear 0",
+            "clear skip", "commit 0", "commit skip", "extend 0", "fresh 0", "fresh skip", "grow 0",
+            "grow 2", "grow 3", "grow 4", "grow 5", "grow 6", "grow skip", "iterate end 0",
+            "iterate end 2", "iterate end 3", "iterate end 4", "iterate end 5", "iterate end 6",
+            "iterate end 7", "iterate end 8", "overwrite 0", "poke 0", "remove 0", "remove 2",
+            "remove 3", "remove 4", "remove 5", "remove 6", "remove skip", "reopen 0", "reopen 12",
+            "reopen 17", "reopen 2", "reopen 3", "reopen 4", "reopen 5", "reopen 6", "state 0",
+            "used 0",
+        ]),
     ];
 
     fn all_lines(scripts: &[Script]) -> Vec<&[u8]> {
@@ -194,6 +213,9 @@ mod tests {
             "open",
             "recover",
             "iterate",
+            "lengths",
+            "write",
+            "damage",
         ] {
             assert!(family(name, 7) == family(name, 7), "{name}");
             assert!(family(name, 7) != family(name, 8), "{name}");
@@ -217,6 +239,37 @@ mod tests {
         assert!(lines("slots") + lines("elements") + lines("file_headers") >= 210_000);
         assert!(lines("ring") >= 60_000);
         assert!(lines("open") + lines("recover") + lines("iterate") >= 150_000);
+    }
+
+    /// What writing is to come upon often.
+    #[rustfmt::skip]
+    const CAME_UPON: [(&str, u64); 13] = [
+        ("growths that wrap", 3000),
+        ("growths that wrap with last across the end", 1000),
+        ("growths that wrap with last before first", 1000),
+        ("growths that wrap with E = 0", 300),
+        ("growths that wrap with a backlink rewritten", 1000),
+        ("growths with real length above new length", 200),
+        ("clears that cut", 1000), ("clears of an empty queue", 200),
+        ("removes that zero across the end", 1000),
+        ("skip exhausted (30)", 1000), ("skip unsound (28)", 1000), ("skip growth walk", 100),
+        ("put back", 1000),
+    ];
+
+    #[test]
+    fn writing_comes_upon_every_case() {
+        let mut noted = Notes::default();
+        for name in ["write", "damage"] {
+            for script in family(name, 1).unwrap() {
+                let notes = answer(&script[..], std::io::sink()).unwrap();
+                noted.read(notes.to_string().as_bytes()).unwrap();
+            }
+        }
+        for (what, times) in CAME_UPON {
+            assert!(noted.times(what) >= times, "{what} {}", noted.times(what));
+        }
+        let writing = ["add", "remove", "clear", "commit", "grow"].map(|name| noted.times(name));
+        assert!(writing.iter().sum::<u64>() >= 200_000);
     }
 
     #[test]
@@ -275,6 +328,6 @@ mod tests {
     fn the_sample_is_one_small_script() {
         let scripts = family("sample", 1).unwrap();
         assert_eq!(scripts.len(), 1);
-        assert!(scripts[0].len() <= 100_000);
+        assert!(scripts[0].len() <= 150_000);
     }
 }

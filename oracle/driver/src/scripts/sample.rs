@@ -8,6 +8,8 @@ use super::queue_spellings::few_wrong_queue_lines;
 use super::ring_sample;
 use super::ring_spellings::{few_wrong_ring_lines, without_a_state};
 use super::spellings::ODD_LINES;
+use super::writing_sample;
+use super::writing_spellings::few_wrong_writing_lines;
 use super::{packed, Line, Script};
 use crate::random::Random;
 
@@ -28,10 +30,12 @@ pub fn scripts(random: &mut Random) -> Vec<Script> {
     lines.extend(codecs());
     lines.extend(ring());
     lines.extend(queue());
+    lines.extend(writing());
     lines.push(comment("Odd spellings; the last line has no newline."));
     lines.extend(few_wrong_codecs());
     lines.extend(few_wrong_ring_lines());
     lines.extend(few_wrong_queue_lines());
+    lines.extend(few_wrong_writing_lines());
     lines.extend(printable_odd_lines());
 
     let mut script = packed(lines).concat();
@@ -82,6 +86,25 @@ fn queue() -> Vec<Line> {
         ("Its footers changed, and an element of another run.", queue_sample::footers_changed()),
         ("Its first pointer spoiled.", queue_sample::heads_recovered()),
         ("Its file cut and lengthened.", queue_sample::real_lengths()),
+    ];
+    with_titles(parts)
+}
+
+/// A queue written, with each answer that the upstream code has too.
+fn writing() -> Vec<Line> {
+    let parts = [
+        ("The worked example, written.", writing_sample::worked()),
+        ("An element behind a growth that wraps.", writing_sample::lost_element()),
+        ("Fresh images.", writing_sample::begun()),
+        ("Growths of every kind.", writing_sample::growths()),
+        ("Spans around what remains.", writing_sample::spans()),
+        ("Lengths after growth.", writing_sample::lengths()),
+        ("Elements removed.", writing_sample::removals()),
+        ("Queues cleared.", writing_sample::clears()),
+        ("Headers committed.", writing_sample::commits()),
+        ("Headers refused.", writing_sample::headers_refused()),
+        ("Backlinks around what moves.", writing_sample::backlinks()),
+        ("Everything by turns.", writing_sample::wandered()),
     ];
     with_titles(parts)
 }

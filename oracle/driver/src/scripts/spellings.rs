@@ -5,7 +5,8 @@ use super::codec_spellings::{mutated_codec, too_long_for_a_codec, wrong_codecs};
 use super::lines::{crc, crc_joined};
 use super::queue_spellings::{longest_images, mutated_queue_lines, wrong_queue_lines};
 use super::ring_spellings::{mutated_ring_lines, wrong_ring_lines};
-use super::{joined, packed, queue_spellings, ring_spellings, Line, Script};
+use super::writing_spellings::{mutated_writing_lines, wrong_writing_lines};
+use super::{joined, packed, queue_spellings, ring_spellings, writing_spellings, Line, Script};
 use crate::language::{BYTES_LIMIT, SCRIPT_LIMIT};
 use crate::random::Random;
 
@@ -80,6 +81,9 @@ pub fn scripts(random: &mut Random) -> Vec<Script> {
     scripts.push(joined(&wrong_queue_lines()));
     scripts.push(mutated_queue_lines(random, MUTATIONS));
     scripts.extend(longest_images(random));
+    scripts.push(joined(&writing_spellings::without_a_state()));
+    scripts.push(joined(&wrong_writing_lines()));
+    scripts.push(mutated_writing_lines(random, MUTATIONS));
     scripts
 }
 

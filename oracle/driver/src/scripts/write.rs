@@ -192,7 +192,8 @@ fn poke_unused(writer: &mut Writer, random: &mut Random) {
     let now = writer.state();
     let len = 1 + random.below(12);
     if now.count > 0 && now.remaining() > len as u64 {
-        let behind = now.last.pos + now.last.span() + random.next() % (now.remaining() - len as u64);
+        let behind =
+            now.last.pos + now.last.span() + random.next() % (now.remaining() - len as u64);
         writer.poke_ring(behind, &random.bytes(len));
     } else {
         let gap = V2_SLOT_LEN + random.below(4096 - V2_SLOT_LEN - len);
