@@ -296,7 +296,7 @@ mod tests {
         let apart = format!("{begin}\ngrow 536\n{add}");
         assert_eq!(last_answer(&apart), last_answer(&lines));
         // A commit between them moves it, and a new object has none.
-        for between in ["commit", "reopen 8381 0\ngrow 536\nreopen 8381 0"] {
+        for between in ["commit", "state B 6 16796 16796 2 5 148 0 3 192 6 4 8381 0"] {
             let notes = notes(&format!("{begin}\ngrow 536\n{between}\n{add}"));
             assert_eq!(notes.strikes(), &[] as &[u64], "{between}");
         }

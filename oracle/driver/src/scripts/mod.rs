@@ -214,13 +214,22 @@ mod tests {
             "recover",
             "iterate",
             "lengths",
-            "write",
-            "damage",
         ] {
             assert!(family(name, 7) == family(name, 7), "{name}");
             assert!(family(name, 7) != family(name, 8), "{name}");
         }
         assert!(family("no", 7).is_none());
+    }
+
+    #[test]
+    fn the_seed_decides_what_is_written() {
+        let written = |seed| {
+            let random = &mut Random::new(seed);
+            let groups: Vec<Vec<Line>> = write::groups(random, 2).collect();
+            (groups, damage::groups(random, 2).collect::<Vec<_>>())
+        };
+        assert!(written(7) == written(7));
+        assert!(written(7) != written(8));
     }
 
     #[test]
