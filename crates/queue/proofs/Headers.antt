@@ -1,20 +1,26 @@
 -- What a header that the ring has is known to be, for those who go on by it. Assumes nothing.
 use mathlib.Core.Path.{_≡_}
 use mathlib.Core.List.{List}
-use Prim.Native.Nat.{ℕ, _≤_}
-use Rattle.refusal.proofs.Laws.{granted}
+use Prim.Native.Nat.{ℕ, _≤_, _<_}
+use lib.ListN.{length}
+use Rattle.refusal.proofs.Laws.{pass, granted}
 use Rattle.ring.specs.Ring.{ringRead}
+use Rattle.ring.proofs.Places.{ring-there}
 use Rattle.format.specs.Element.{elementSpan}
 use Rattle.format.specs.declared.element.V2ElementHeader.{V2ElementHeader}
 use Rattle.format.specs.declared.element.ParsedHeader.{ParsedHeader}
 use Rattle.format.specs.declared.element.ParsedHeader.the-variants.{Header, Refused}
 use Rattle.format.proofs.ElementLaws.{no-header, parsed}
-use Rattle.queue.specs.Element.{capacity, headerAt, inSequence, headerInSequence}
+use Rattle.queue.specs.Element.{capacity, headerAt, readHeader, inSequence, headerInSequence}
 
 -- a valid header's element fits the ring
 pub header-fits : (img : List ℕ) (file p : ℕ) (h : V2ElementHeader) → headerAt img file p ≡ Header h → elementSpan (h .«payload_len») ≤ capacity file
 unfolding headerAt
 header-fits img file p h e = parsed (ringRead 8192 (capacity file) img p 28) (capacity file) h e .fits
+
+-- in a ring that is there it is read
+pub header-read : (img : List ℕ) (file p : ℕ) → 8192 < file → file ≤ length img → readHeader img file p ≡ headerAt img file p
+header-read img file p h l = pass _ _ _ (ring-there 8192 (length img) file h l)
 
 -- a header that is in sequence is the header
 sequence-header : (seq : ℕ) (d : ParsedHeader) (h : V2ElementHeader) → inSequence seq d ≡ Header h → d ≡ Header h

@@ -2,11 +2,12 @@
 use Prim.Native.Nat.{ℕ, _+_, _-_, _^_, _≤_, _<_}
 use mathlib.Core.Bool.{Bool, _&&_}
 use mathlib.Core.List.{List}
+use lib.ListN.{length}
 use lib.Dec.{eqb}
-use Rattle.refusal.specs.Table.{sequenceMismatch}
+use Rattle.refusal.specs.Table.{unsound, sequenceMismatch}
 use Rattle.refusal.specs.Demand.{demand}
 use Rattle.refusal.specs.declared.Verdict as Answer
-use Rattle.ring.specs.Ring.{ringRead}
+use Rattle.ring.specs.Ring.{ringRead, hasRing}
 use Rattle.format.specs.Element.{elementSpan, parseHeader, checkFooter}
 use Rattle.format.specs.declared.element.V2ElementHeader.{V2ElementHeader}
 use Rattle.format.specs.declared.element.ParsedHeader.{ParsedHeader}
@@ -34,6 +35,10 @@ capacity file = file - 8192
 -- what the 28 bytes at the place p say
 unfoldable pub headerAt : List ℕ → ℕ → ℕ → ParsedHeader
 headerAt img file p = parseHeader (ringRead 8192 (capacity file) img p 28) (capacity file)
+
+-- the same where a ring may not be there: 28 first
+abbrev pub readHeader : List ℕ → ℕ → ℕ → ParsedHeader
+readHeader img file p = demand (hasRing 8192 (length img) file) (Parsed.Refused unsound) (headerAt img file p)
 
 -- 17 unless the header has that sequence
 abbrev pub inSequence : ℕ → ParsedHeader → ParsedHeader

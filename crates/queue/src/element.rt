@@ -3,7 +3,7 @@ ghost use mathlib.Core.Path.{_≡_};
 ghost use Prim.Native.Nat.{_≤_, _<_};
 ghost use lib.ListN.{length};
 ghost use Rattle.wire.specs.Wire.{putAt};
-ghost use Rattle.queue.specs.Element.{isEmptyElement, elementHere, headerAt, headerInSequence, payloadAt, footerVerdict, Lies};
+ghost use Rattle.queue.specs.Element.{isEmptyElement, elementHere, headerAt, readHeader, headerInSequence, payloadAt, footerVerdict, Lies};
 use format::ParsedHeader;
 use format::V2_ELEM_HDR_LEN;
 use format::V2ElementHeader;
@@ -39,7 +39,7 @@ impl Element {
     }
 
     // The element at a place, as its header tells of it.
-    pub(crate) fn here(pos: u64, header: V2ElementHeader) -> Element
+    pub fn here(pos: u64, header: V2ElementHeader) -> Element
         ensures { λ r. ⌜ r ≡ elementHere pos header ⌝ }
     {
         Element {
@@ -60,7 +60,17 @@ pub(crate) fn header_at(image: &[u8], file_len: u64, pos: u64) -> ParsedHeader
     format::parse_v2_element_header(&bytes, file_len - V2_DATA_START)
 }
 
-// The same of a header that has to have a certain sequence.
+// The same of any ring, which may not be there.
+pub fn validate_v2_element_header(image: &[u8], file_len: u64, logical_pos: u64) -> ParsedHeader
+    ensures { λ r. ⌜ r ≡ readHeader (now (image .entry)) «file_len» «logical_pos» ⌝ }
+{
+    if !ring::has_ring(V2_DATA_START, image.len() as u64, file_len) {
+        return ParsedHeader::Refused(Refusal::UNSOUND);
+    }
+    header_at(image, file_len, logical_pos)
+}
+
+// What they say in a ring that is there, of a header that has to have a certain sequence.
 pub(crate) fn header_in_sequence(image: &[u8], file_len: u64, pos: u64, seq: u64) -> ParsedHeader
     requires { ⌜ (8192 < «file_len») × («file_len» ≤ length (now image)) ⌝ }
     ensures { λ r. ⌜ r ≡ headerInSequence (now (image .entry)) «file_len» pos seq ⌝ }

@@ -12,6 +12,7 @@ mod state;
 mod strict;
 
 pub use element::Element;
+pub use element::validate_v2_element_header;
 pub use iter::Cursor;
 pub use iter::Step;
 pub use iter::Stepped;
