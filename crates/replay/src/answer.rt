@@ -1,4 +1,5 @@
 // What an operation answers. It is a value, so that no operation holds the text that waits, and one function prints them all.
+use queue::Count;
 use queue::QueueFile;
 use queue::Step;
 use refusal::Refusal;
@@ -74,6 +75,14 @@ impl Answer {
         answer.numbers = numbers;
         answer.number_count = count;
         answer
+    }
+
+    // A number of bytes, or a refusal.
+    pub fn of_count(count: Count) -> Answer {
+        match count {
+            Count::Bytes(bytes) => Answer::of_numbers([bytes, 0, 0, 0, 0, 0], 1),
+            Count::Refused(refusal) => Answer::of_refusal(refusal),
+        }
     }
 
     // What an encoder gave: bytes, at most 56, or a refusal.

@@ -4,6 +4,7 @@
 // line to line.
 mod answer;
 mod bench;
+mod changing;
 mod checksum;
 mod done;
 mod elements;

@@ -4,7 +4,6 @@ use crate::answer::Answer;
 use crate::answer::Tail;
 use crate::checksum;
 use crate::words::Numbers;
-use queue::Count;
 use queue::Cursor;
 use queue::Peeked;
 use queue::PeekedPlace;
@@ -86,8 +85,5 @@ pub fn recover(image: &[u8], file_len: u64, n: Numbers) -> Answer {
 
 // `used`
 pub fn used(image_len: u64, q: QueueFile) -> Answer {
-    match q.used_bytes(image_len) {
-        Count::Bytes(count) => Answer::of_numbers([count, 0, 0, 0, 0, 0], 1),
-        Count::Refused(refusal) => Answer::of_refusal(refusal),
-    }
+    Answer::of_count(q.used_bytes(image_len))
 }

@@ -33,7 +33,7 @@ pub fn reopen_strictly(image: &[u8], n: Numbers, q: QueueFile) -> Done {
     )
 }
 
-fn settings_of(capacity: u64, flag: u64) -> Settings {
+pub fn settings_of(capacity: u64, flag: u64) -> Settings {
     Settings {
         capacity: capacity,
         overwrite_on_remove: flag == 1,

@@ -1,6 +1,7 @@
 // The operations that need no bench: their names, the shapes of their lines, and who answers them. None holds a buffer or a state.
 // The prover's search closes a `match` over some twenty variants and no more, so operations of another kind have an enum of their own.
 use crate::answer::Answer;
+use crate::changing;
 use crate::checksum;
 use crate::elements;
 use crate::file_headers;
@@ -24,13 +25,14 @@ pub enum Operation {
     LegacyParse,
     V1Encode,
     V1Parse,
+    GrowLength,
     Unknown,
 }
 
 pub fn named(name: &[u8]) -> Operation {
     let names = b"crc crc_joined slot_encode slot_parse slot_check elect \
         header_encode header_parse footer_encode footer_check \
-        legacy_encode legacy_parse v1_encode v1_parse";
+        legacy_encode legacy_parse v1_encode v1_parse grow_length";
     match place(name, names) {
         0 => Operation::Crc,
         1 => Operation::CrcJoined,
@@ -46,6 +48,7 @@ pub fn named(name: &[u8]) -> Operation {
         11 => Operation::LegacyParse,
         12 => Operation::V1Encode,
         13 => Operation::V1Parse,
+        14 => Operation::GrowLength,
         _ => Operation::Unknown,
     }
 }
@@ -66,6 +69,7 @@ pub fn shape(operation: Operation) -> Shape {
         Operation::LegacyParse => Shape::ONE_STRING,
         Operation::V1Encode => Shape::of_numbers(5),
         Operation::V1Parse => Shape::ONE_STRING,
+        Operation::GrowLength => Shape::of_numbers(4),
         Operation::Unknown => Shape::NONE,
     }
 }
@@ -87,6 +91,7 @@ pub fn answer(operation: Operation, n: Numbers, a: &[u8], b: &[u8]) -> Answer {
         Operation::LegacyParse => file_headers::parse_legacy(a),
         Operation::V1Encode => file_headers::encode_v1(n),
         Operation::V1Parse => file_headers::parse_v1(a),
+        Operation::GrowLength => changing::grow_length(n),
         Operation::Unknown => Answer::bad(),
     }
 }

@@ -2,6 +2,8 @@
 use crate::answer::Answer;
 use crate::bench;
 use crate::bench::BenchOperation;
+use crate::changing;
+use crate::changing::ChangingOperation;
 use crate::done::Done;
 use crate::done::Held;
 use crate::operation::answer;
@@ -73,13 +75,32 @@ fn is_silent(line: &[u8]) -> bool {
 fn do_line(line: &[u8], room: &mut [u8], output: &mut [u8], image: &mut [u8], held: Held) -> Done {
     let operation = reading::named(script::word(line, 0));
     if let ReadingOperation::Unknown = operation {
-        return do_bench_line(line, room, output, image, held);
+        return do_changing_line(line, room, output, image, held);
     }
     let Words::Of(n, len, _) = read_words(line, reading::shape(operation), room) else {
         return Done::bad(held);
     };
     let bytes = wire::part(room, 0, len);
     reading::work(operation, n, bytes, output, image, held)
+}
+
+// An operation that changes a queue, or another.
+fn do_changing_line(
+    line: &[u8],
+    room: &mut [u8],
+    output: &mut [u8],
+    image: &mut [u8],
+    held: Held,
+) -> Done {
+    let operation = changing::named(script::word(line, 0));
+    if let ChangingOperation::Unknown = operation {
+        return do_bench_line(line, room, output, image, held);
+    }
+    let Words::Of(n, len, _) = read_words(line, changing::shape(operation), room) else {
+        return Done::bad(held);
+    };
+    let bytes = wire::part(room, 0, len);
+    changing::work(operation, n, bytes, image, held)
 }
 
 // An operation on the bench, or one that needs none.
