@@ -1,0 +1,10 @@
+pub mod Choices
+pub mod CommitLaws
+pub mod LengthLaws
+pub mod StateLaws
+pub mod PlanLaws
+pub mod WalkLaws
+pub mod RelinkLaws
+pub mod AppendLaws
+pub mod ExtendLaws
+pub mod SkipLaws

@@ -1,0 +1,9 @@
+pub mod Work
+pub mod Commit
+pub mod Length
+pub mod Growth
+pub mod Expansion
+pub mod Adding
+pub mod Clearing
+pub mod Removal
+pub mod Fresh
