@@ -11,7 +11,8 @@ use Rattle.format.specs.declared.element.ParsedHeader.the-variants as Parsed
 use Rattle.queue.specs.Answers.{onHeader}
 use Rattle.queue.specs.Element.{capacity, elementHere, headerAt}
 use Rattle.queue.specs.declared.element.Element.{Element}
-use Rattle.writing.specs.Removal.{behind, skipStep, skipFrom}
+use Rattle.writing.specs.Growth.{behind}
+use Rattle.writing.specs.Removal.{skipStep, skipFrom}
 use Rattle.writing.specs.declared.removal.Skipped.the-variants as Skipped
 
 -- ---- one step

@@ -3,7 +3,6 @@ use Prim.Native.Nat.{ℕ, zero, suc, _+_, _-_}
 use mathlib.Core.Path.{_≡_}
 use mathlib.Core.Bool.{Bool, true, not, cond, _&&_}
 use mathlib.Core.List.{List}
-use lib.ListN.{length}
 use lib.Dec.{ltb, leb, eqb}
 use Rattle.refusal.specs.Table.{unsound, bufferTooSmall}
 use Rattle.refusal.specs.Demand.{demand}
@@ -14,6 +13,7 @@ use Rattle.format.specs.Element.{elementSpan}
 use Rattle.queue.specs.Answers.{onHeader, onVerdict}
 use Rattle.queue.specs.Element.{capacity, headerAt}
 use Rattle.queue.specs.State.{usedBytes, sound}
+use Rattle.queue.specs.declared.element.Element.{Element}
 use Rattle.queue.specs.declared.state.QueueFile.{QueueFile}
 use Rattle.queue.specs.declared.state.Count.{Count}
 use Rattle.queue.specs.declared.state.Count.the-variants.{Bytes, Refused}
@@ -27,9 +27,13 @@ use Rattle.writing.specs.Length.{growLength}
 abbrev pub remaining : QueueFile → ℕ
 remaining q = q .«file_len» - usedBytes q
 
--- the end of last: the place behind it, which may be 0
+-- the place behind an element, which may be 0
+abbrev pub behind : ℕ → Element → ℕ
+behind file e = ringAdd (capacity file) (e .pos) (elementSpan (e .len))
+
+-- the end of last
 abbrev pub endOfLast : QueueFile → ℕ
-endOfLast q = ringAdd (capacity (q .«file_len»)) (q .last .pos) (elementSpan (q .last .len))
+endOfLast q = behind (q .«file_len») (q .last)
 
 -- growth wraps where there are elements and the end is not behind first
 unfoldable pub wrapped : QueueFile → Bool

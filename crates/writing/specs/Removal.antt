@@ -7,8 +7,7 @@ use lib.Dec.{leb, eqb}
 use Rattle.refusal.specs.Table.{unsound}
 use Rattle.refusal.specs.Demand.{demand}
 use Rattle.refusal.specs.declared.Refusal.{Refusal}
-use Rattle.ring.specs.Ring.{ringAdd, ringDistance, ringErase}
-use Rattle.format.specs.Element.{elementSpan}
+use Rattle.ring.specs.Ring.{ringDistance, ringErase}
 use Rattle.queue.specs.Answers.{onHeader, onVerdict}
 use Rattle.queue.specs.Element.{capacity, elementHere, headerAt}
 use Rattle.queue.specs.State.{sound}
@@ -16,16 +15,13 @@ use Rattle.queue.specs.declared.element.Element.{Element}
 use Rattle.queue.specs.declared.state.QueueFile.{QueueFile}
 use Rattle.writing.specs.Work.{Work, done, kept, withElements}
 use Rattle.writing.specs.Commit.{judgeNumbers, committed}
+use Rattle.writing.specs.Growth.{behind}
 use Rattle.writing.specs.Clearing.{clearOf}
 use Rattle.writing.specs.declared.answer.Changed.{Changed}
 use Rattle.writing.specs.declared.removal.Skipped as Walk
 use Rattle.writing.specs.declared.removal.Skipped.the-variants as Skipped
 
 -- ---- the walk
-
--- the place behind an element
-abbrev pub behind : ℕ → Element → ℕ
-behind file e = ringAdd (capacity file) (e .pos) (elementSpan (e .len))
 
 -- a header either parses, or the walk stops there with its refusal
 abbrev pub skipStep : List ℕ → ℕ → Element → (Element → Walk.Skipped) → Walk.Skipped

@@ -3,7 +3,7 @@ ghost use mathlib.Core.Path.{_≡_};
 ghost use Prim.Native.Nat.{_-_, _^_, _≤_, _<_};
 ghost use lib.ListN.{length};
 ghost use Rattle.ring.specs.Ring.{ringWrite};
-ghost use Rattle.writing.specs.Adding.{elementBytes, nextPlace, nextElement, withLast, appended, judgeAdd, addOf, Extends};
+ghost use Rattle.writing.specs.Adding.{elementBytes, nextElement, withLast, appended, judgeAdd, addOf, Extends};
 use crate::answer::Changed;
 use crate::committing::pointer_to;
 use crate::committing::sync_header;

@@ -1,6 +1,6 @@
 // Clear: the queue is empty, and the file goes back to its set capacity.
 ghost use mathlib.Core.Path.{_≡_};
-ghost use Rattle.writing.specs.Clearing.{clearedLength, emptied, ringZeroed, cutState, clearOf};
+ghost use Rattle.writing.specs.Clearing.{clearedLength, ringZeroed, cutState, clearOf};
 use crate::answer::Changed;
 use crate::committing::judge_commit;
 use crate::committing::sync_header;

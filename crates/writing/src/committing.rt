@@ -1,9 +1,6 @@
 // Commit: the state goes into the slot that is not active, so that the one that was stays whole until the other is.
 ghost use mathlib.Core.Path.{_≡_};
-ghost use mathlib.Core.Bool.{true};
 ghost use Prim.Native.Nat.{_^_, _≤_, _<_};
-ghost use lib.ListN.{length};
-ghost use Rattle.queue.specs.State.{sound};
 ghost use Rattle.writing.specs.Commit.{pointerTo, slotOf, slotStored, committed, judgeNumbers, judgeCommit, commitOf, Storable};
 use crate::answer::Changed;
 use format::V2Format;

@@ -1,10 +1,7 @@
 // Growth: the file gets longer, and where the elements wrap, those at the ring's start are laid behind those at its end.
 ghost use mathlib.Core.Path.{_≡_};
-ghost use mathlib.Core.Bool.{true};
 ghost use Prim.Native.Nat.{_+_, _-_, _*_, _^_, _≤_, _<_};
 ghost use lib.ListN.{length};
-ghost use Rattle.queue.specs.Element.{Lies};
-ghost use Rattle.queue.specs.State.{sound};
 ghost use Rattle.writing.specs.Expansion.{lengthened, relinkedHeader, relinkFrom, lastPlaced, startZeroed, laidStraight, expanded, grown, judgeExpansion, expandOf, Expands};
 use crate::answer::Changed;
 use crate::committing::sync_header;

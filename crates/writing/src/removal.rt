@@ -5,7 +5,7 @@ ghost use Prim.Native.Nat.{_-_, _^_, _≤_, _<_};
 ghost use lib.ListN.{length};
 ghost use Rattle.queue.specs.Element.{Lies};
 ghost use Rattle.queue.specs.State.{sound};
-ghost use Rattle.writing.specs.Removal.{skipFrom, dropped, removedZeroed, removeTo, removeSome, removeOf};
+ghost use Rattle.writing.specs.Removal.{skipFrom, removedZeroed, removeTo, removeSome, removeOf};
 use crate::answer::Changed;
 use crate::clearing::clear;
 use crate::committing::judge_numbers;
@@ -18,6 +18,7 @@ use queue::QueueFile;
 use refusal::Refusal;
 use refusal::Verdict;
 
+// The element that a walk comes to.
 pub enum Skipped {
     To(Element),
     Refused(Refusal),

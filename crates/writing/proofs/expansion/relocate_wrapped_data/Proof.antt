@@ -1,6 +1,6 @@
 -- `writing::expansion::relocate_wrapped_data` meets its contract: its calls are the definition's steps, one after the other, and the move
 -- is granted, since what is moved lies before the end of the old file and the image has room behind it. Assumes nothing.
-use mathlib.Core.Path.{_≡_, ap, _∙_}
+use mathlib.Core.Path.{ap, _∙_}
 use mathlib.Core.List.{List}
 use Prim.Native.Nat.{ℕ}
 use native.Mathlib.Omega.{arith}

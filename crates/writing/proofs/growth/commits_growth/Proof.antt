@@ -7,7 +7,7 @@ use borrow.Author.Needs.{needs}
 use borrow.Author.Tests.{lt-ltb, le-ltb}
 use Rattle.refusal.proofs.Laws.{flag-no, flag-yes}
 use Rattle.queue.proofs.Tests.{both, fails}
-use Rattle.writing.specs.Growth.{remaining, commitsGrowth}
+use Rattle.writing.specs.Growth.{commitsGrowth}
 use Rattle.writing.proofs.growth.commits_growth.Statement.{statement}
 use Rattle.writing.proofs.growth.commits_growth.Tie as tie
 
