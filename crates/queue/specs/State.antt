@@ -21,6 +21,10 @@ endsUsed q = ringDistance (capacity (q .«file_len»)) (q .first .pos) (q .last 
 unfoldable pub usedBytes : QueueFile → ℕ
 usedBytes q = cond (eqb (q .«elem_cnt») 0) 8192 (endsUsed q)
 
+-- the bytes of the file that are not used
+abbrev pub remainingBytes : QueueFile → ℕ
+remainingBytes q = q .«file_len» - usedBytes q
+
 -- ---- soundness
 
 -- 8192 <= file length <= real length <= image length, and the real length below 2^63
@@ -61,7 +65,7 @@ abbrev pub judgeUsed : QueueFile → ℕ → Count
 judgeUsed q len = demand (sound q len) (Refused unsound) (Bytes (usedBytes q))
 
 abbrev pub judgeRemaining : QueueFile → ℕ → Count
-judgeRemaining q len = demand (sound q len) (Refused unsound) (Bytes (q .«file_len» - usedBytes q))
+judgeRemaining q len = demand (sound q len) (Refused unsound) (Bytes (remainingBytes q))
 
 -- the number and two values of each answer
 abbrev pub countRefusal : Count → Refusal

@@ -15,6 +15,7 @@ use Rattle.writing.specs.Commit.{Storable}
 use Rattle.writing.specs.Growth.{endOfLast}
 use Rattle.writing.specs.Adding.{nextPlace, appended, Extends}
 use Rattle.writing.proofs.Choices.{either}
+use Rattle.writing.proofs.StateLaws.{own-lies}
 
 -- ---- the image that a worker without one goes by is the file itself
 
@@ -29,9 +30,7 @@ own-extends q len e =
       generation = e .generation;
       first = e .first;
       place = e .place;
-      last = λ (k : q .«elem_cnt» ≡ 0 → ⊥).
-          let l = e .last k in
-          record { some = l .some; inside = omega arith; small = l .small; place = l .place; span = l .span };
+      last = λ (k : q .«elem_cnt» ≡ 0 → ⊥). own-lies len (q .«file_len») (q .last) (e .last k);
     }
 
 -- ---- its place

@@ -2,19 +2,20 @@
 use mathlib.Core.Path.{_≡_, refl}
 use mathlib.Core.Bool.{Bool, true, false, cond}
 use mathlib.Core.List.{List}
-use Prim.Native.Nat.{ℕ, _+_, _-_, _≤_, _<_}
+use Prim.Native.Nat.{ℕ, _≤_, _<_}
 use native.Mathlib.Decide.{decLe}
 use native.Mathlib.Omega.{arith}
 use lib.Dec.{ltb, eqb}
 use borrow.Author.Tests.{ltb-true, ltb-false}
 use Rattle.format.specs.Element.{elementSpan}
-use Rattle.queue.specs.Element.{element, capacity, Lies}
-use Rattle.queue.specs.State.{endsUsed, usedBytes, sound}
+use Rattle.queue.specs.Element.{capacity, Lies}
+use Rattle.queue.specs.State.{endsUsed, usedBytes, remainingBytes, sound}
+use Rattle.queue.specs.declared.element.Element.{Element}
 use Rattle.queue.specs.declared.state.QueueFile.{QueueFile}
 use Rattle.queue.proofs.Sound.{sound-lengths, sound-numbers, last-lies}
 use Rattle.writing.specs.Work.{Work, withLength}
 use Rattle.writing.specs.Commit.{committed, nextState}
-use Rattle.writing.specs.Growth.{remaining, endOfLast, wrapped}
+use Rattle.writing.specs.Growth.{endOfLast, wrapped}
 use Rattle.writing.specs.Expansion.{lengthened, lastMoved, lastPlaced, startZeroed, laidStraight, expanded, grown, Expands}
 use Rattle.writing.specs.Adding.{Extends}
 use Rattle.writing.proofs.Choices.{either}
@@ -25,26 +26,15 @@ use Rattle.writing.proofs.PlanLaws.{length-planned, length-expands, Add
 
 -- ---- a state that is longer
 
-longer-lies : (q : QueueFile) (len n d : ℕ) → Expands q len n → d ≤ capacity (q .«file_len») → Lies len (q .«file_len») (q .last)
-    → Lies len n (element (q .last .pos + d) (q .last .len) (q .last .seq))
-longer-lies q len n d x h l =
-    record {
-      some = omega (arith, l .some, x .twice);
-      inside = x .inside;
-      small = x .small;
-      place = omega (arith, l .some, l .place, x .twice, h);
-      span = omega (arith, l .some, l .span, x .twice);
-    }
+-- an element that has its place in the longer ring lies in it
+longer-lies : (q : QueueFile) (len n : ℕ) (e : Element) → Expands q len n → e .pos < capacity n → elementSpan (e .len) ≤ capacity n → Lies len n e
+longer-lies q len n e x p s = record { some = omega (arith, p); inside = x .inside; small = x .small; place = p; span = s }
 
-same-lies : (q : QueueFile) (len n : ℕ) → Expands q len n → Lies len (q .«file_len») (q .last) → Lies len n (q .last)
-same-lies q len n x l =
-    record {
-      some = omega (arith, l .some, x .twice);
-      inside = x .inside;
-      small = x .small;
-      place = omega (arith, l .some, l .place, x .twice);
-      span = omega (arith, l .some, l .span, x .twice);
-    }
+-- as last does where it is
+last-longer : (q : QueueFile) (len n : ℕ) → Expands q len n → (q .«elem_cnt» ≡ 0 → ⊥) → Lies len n (q .last)
+last-longer q len n x k =
+    let l = last-lies q len (x .sound) k in
+    longer-lies q len n (q .last) x (omega (arith, l .some, l .place, x .twice)) (omega (arith, l .some, l .span, x .twice))
 
 longer-extends : (q : QueueFile) (len n : ℕ) → Expands q len n → Extends len (withLength q n)
 longer-extends q len n x =
@@ -60,14 +50,15 @@ longer-extends q len n x =
       generation = s .generation;
       first = s .first;
       place = s .last;
-      last = λ (k : q .«elem_cnt» ≡ 0 → ⊥). same-lies q len n x (last-lies q len (x .sound) k);
+      last = last-longer q len n x;
     }
 
 -- with last moved, which there is
 moved-extends : (q : QueueFile) (len n : ℕ) → Expands q len n → (q .«elem_cnt» ≡ 0 → ⊥) → Extends len (lastMoved (q .«file_len») (withLength q n))
 moved-extends q len n x k =
     let e = longer-extends q len n x in
-    let l = longer-lies q len n (q .«file_len» - 8192) x (omega arith) (last-lies q len (x .sound) k) in
+    let o = last-lies q len (x .sound) k in
+    let l = longer-lies q len n (lastMoved (q .«file_len») (withLength q n) .last) x (omega (arith, o .some, o .place, x .twice)) (omega (arith, o .some, o .span, x .twice)) in
     record {
       some = e .some;
       inside = e .inside;
@@ -126,7 +117,7 @@ used-some : (q : QueueFile) → 8192 ≤ usedBytes q
 unfolding usedBytes
 used-some q = either (λ (u : ℕ). 8192 ≤ u) (eqb (q .«elem_cnt») 0) 8192 (endsUsed q) (λ _. omega arith) (omega arith)
 
-same-extends : (q : QueueFile) (len span : ℕ) → sound q len ≡ true → 0 < span → span ≤ remaining q → Extends len q
+same-extends : (q : QueueFile) (len span : ℕ) → sound q len ≡ true → 0 < span → span ≤ remainingBytes q → Extends len q
 same-extends q len span e h r =
     let l = sound-lengths q len e in
     let m = sound-numbers q len e in
@@ -144,15 +135,15 @@ same-extends q len span e h r =
     }
 
 -- where the file stays as it is, that is because there is room
-has-room : (q : QueueFile) (len payload n : ℕ) → Adds q len payload n → n ≤ q .«file_len» → elementSpan payload ≤ remaining q
+has-room : (q : QueueFile) (len payload n : ℕ) → Adds q len payload n → n ≤ q .«file_len» → elementSpan payload ≤ remainingBytes q
 has-room q len payload n a h =
-    go (decLe (elementSpan payload) (remaining q))
+    go (decLe (elementSpan payload) (remainingBytes q))
   where
-    go : Dec (elementSpan payload ≤ remaining q) → elementSpan payload ≤ remaining q
+    go : Dec (elementSpan payload ≤ remainingBytes q) → elementSpan payload ≤ remainingBytes q
     go (yes y) = y
     go (no m) =
         let p = length-planned q len (elementSpan payload) 1 1 n (a .planned) in
-        let g = length-grows (q .«file_len») (remaining q) (elementSpan payload) n (p .0) (omega (arith, m)) in
+        let g = length-grows (q .«file_len») (remainingBytes q) (elementSpan payload) n (p .0) (omega (arith, m)) in
         absurd (omega (arith, h, sound-lengths q len (a .sound) .start, g))
 
 grown-by : (b : Bool) (q : QueueFile) (img : List ℕ) (len payload n : ℕ) → Adds q len payload n → ltb (q .«file_len») n ≡ b

@@ -12,14 +12,14 @@ use Rattle.refusal.specs.declared.Verdict as Answer
 use Rattle.refusal.proofs.Laws.{granted}
 use Rattle.format.specs.Element.{elementSpan}
 use Rattle.queue.specs.Answers.{onVerdict}
-use Rattle.queue.specs.State.{sound}
+use Rattle.queue.specs.State.{remainingBytes, sound}
 use Rattle.queue.specs.declared.state.QueueFile.{QueueFile}
 use Rattle.queue.specs.declared.state.Count.{Count}
 use Rattle.queue.specs.declared.state.Count.the-variants.{Bytes, Refused}
 use Rattle.queue.proofs.AnswerLaws.{on-granted}
 use Rattle.writing.specs.Commit.{judgeNumbers}
 use Rattle.writing.specs.Length.{growLength}
-use Rattle.writing.specs.Growth.{remaining, wrapped, growthCommits, withinImage, judgeLength, walkOldRing, walked, checkGrowth, Planned}
+use Rattle.writing.specs.Growth.{wrapped, growthCommits, withinImage, judgeLength, walkOldRing, walked, checkGrowth, Planned}
 use Rattle.writing.specs.Expansion.{judgeExpansion, Expands}
 use Rattle.writing.specs.Adding.{judgeAdd}
 use Rattle.writing.proofs.LengthLaws.{no-bytes, same-bytes, length-doubles}
@@ -45,10 +45,10 @@ within-same len (Bytes m) n e =
 -- ---- what was planned
 
 pub length-planned : (q : QueueFile) (len span commits elements n : ℕ) → judgeLength q len span commits elements ≡ Bytes n
-    → (growLength (q .«file_len») (remaining q) span ≡ Bytes n) × (n ≤ len)
+    → (growLength (q .«file_len») (remainingBytes q) span ≡ Bytes n) × (n ≤ len)
 unfolding judgeLength
 length-planned q len span commits elements n e =
-    within-same len (growLength (q .«file_len») (remaining q) span) n
+    within-same len (growLength (q .«file_len») (remainingBytes q) span) n
     (on-granted Refused (judgeNumbers q (commits + growthCommits q span) elements) _ (Bytes n) (λ r. no-bytes) e .1)
 
 -- a length above the file's is one that it can grow to
@@ -60,7 +60,7 @@ pub length-expands : (q : QueueFile) (len span commits elements n : ℕ) → sou
     → q .«file_len» < n → Expands q len n
 length-expands q len span commits elements n s e h =
     let p = length-planned q len span commits elements n e in
-    let d = length-doubles (q .«file_len») (remaining q) span n (p .0) in
+    let d = length-doubles (q .«file_len») (remainingBytes q) span n (p .0) in
     record { sound = s; twice = twice (q .«file_len») n (d .1) h; inside = p .1; small = d .0 }
 
 pub expansion-expands : (q : QueueFile) (len span n : ℕ) → judgeExpansion q len span ≡ Bytes n → q .«file_len» < n → Expands q len n

@@ -1,11 +1,9 @@
 -- The walk that changes backlinks: one step of it, as the code counts it, and that the image stays as long as it was. Assumes nothing.
 use mathlib.Core.Path.{_≡_, refl, sym, _∙_}
-use mathlib.Core.Bool.{Bool, true, false, cond}
 use mathlib.Core.List.{List}
 use Prim.Native.Nat.{ℕ, zero, suc, _+_, _-_, _≤_, _<_}
 use native.Mathlib.Omega.{arith}
 use lib.ListN.{length}
-use Rattle.ring.specs.Ring.{ringWrite}
 use Rattle.ring.proofs.Writing.{length-write}
 use Rattle.format.specs.Element.{encodeHeader}
 use Rattle.format.specs.declared.element.V2ElementHeader.{V2ElementHeader}
@@ -15,6 +13,7 @@ use Rattle.queue.specs.Element.{capacity, headerAt, readHeader}
 use Rattle.queue.proofs.Headers.{header-read}
 use Rattle.queue.proofs.Steps.{one-less}
 use Rattle.writing.specs.Expansion.{namesMoved, relinkedHeader, relinkStep, relinkFrom}
+use Rattle.writing.proofs.Choices.{either}
 
 -- ---- the walk
 
@@ -31,15 +30,11 @@ relink-unroll file old end n i img p h = rw (one-less n i h)
 
 -- ---- lengths
 
-length-either : (b : Bool) (new old : List ℕ) → length new ≡ length old → length (cond b new old) ≡ length old
-length-either true new old e = e
-length-either false new old e = refl
-
 pub length-relinked : (file old end : ℕ) (img : List ℕ) (p : ℕ) (h : V2ElementHeader) → length (relinkedHeader file old end img p h) ≡ length img
 unfolding relinkedHeader
 length-relinked file old end img p h =
     let s : List ℕ = encodeHeader (h .seq) (h .«prev_pos» + (old - 8192)) (h .«payload_len») .bytes in
-    length-either (namesMoved end (h .«prev_pos»)) (ringWrite 8192 (capacity file) img p s) img (length-write 8192 (capacity file) img p s)
+    either (λ (l : List ℕ). length l ≡ length img) (namesMoved end (h .«prev_pos»)) _ _ (λ _. length-write 8192 (capacity file) img p s) refl
 
 length-step : (file old end : ℕ) (img : List ℕ) (p : ℕ) (d : ParsedHeader) (rest : List ℕ → ℕ → List ℕ) →
     ((i : List ℕ) (q : ℕ) → length (rest i q) ≡ length i) → length (relinkStep file old end img p d rest) ≡ length img

@@ -16,10 +16,11 @@ use Rattle.format.specs.declared.element.ParsedHeader.{ParsedHeader}
 use Rattle.format.specs.declared.element.ParsedHeader.the-variants as Parsed
 use Rattle.queue.specs.Element.{element, capacity, headerAt}
 use Rattle.queue.specs.State.{sound}
+use Rattle.queue.specs.Opening.{withEnds}
 use Rattle.queue.specs.declared.state.QueueFile.{QueueFile}
 use Rattle.queue.specs.declared.state.Count.{Count}
 use Rattle.queue.specs.declared.state.Count.the-variants.{Refused}
-use Rattle.writing.specs.Work.{Work, done, kept, onCount, withLength, withElements}
+use Rattle.writing.specs.Work.{Work, done, kept, onCount, withLength}
 use Rattle.writing.specs.Commit.{committed}
 use Rattle.writing.specs.Growth.{endOfLast, wrapped, judgeLength, checkGrowth}
 use Rattle.writing.specs.declared.answer.Changed.{Changed}
@@ -64,7 +65,7 @@ relinked old end w = (w .0, relinkFrom (w .0 .«file_len») old end (w .0 .«ele
 -- last stands behind the old capacity
 abbrev pub lastMoved : ℕ → QueueFile → QueueFile
 lastMoved old q =
-    withElements q (q .«elem_cnt») (q .first) (element (q .last .pos + (old - 8192)) (q .last .len) (q .last .seq))
+    withEnds q (q .first) (element (q .last .pos + (old - 8192)) (q .last .len) (q .last .seq))
 
 -- if it stood before first, and is then committed if what it stood in is to be zeroed
 unfoldable pub lastPlaced : ℕ → Work → Work

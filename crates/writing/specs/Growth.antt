@@ -1,5 +1,5 @@
 -- What is asked before a file grows: the numbers, the new length, and the walk in the old ring. Assumes nothing.
-use Prim.Native.Nat.{ℕ, zero, suc, _+_, _-_}
+use Prim.Native.Nat.{ℕ, zero, suc, _+_}
 use mathlib.Core.Path.{_≡_}
 use mathlib.Core.Bool.{Bool, true, not, cond, _&&_}
 use mathlib.Core.List.{List}
@@ -12,7 +12,7 @@ use Rattle.ring.specs.Ring.{ringAdd}
 use Rattle.format.specs.Element.{elementSpan}
 use Rattle.queue.specs.Answers.{onHeader, onVerdict}
 use Rattle.queue.specs.Element.{capacity, headerAt}
-use Rattle.queue.specs.State.{usedBytes, sound}
+use Rattle.queue.specs.State.{remainingBytes, sound}
 use Rattle.queue.specs.declared.element.Element.{Element}
 use Rattle.queue.specs.declared.state.QueueFile.{QueueFile}
 use Rattle.queue.specs.declared.state.Count.{Count}
@@ -22,10 +22,6 @@ use Rattle.writing.specs.Commit.{judgeNumbers}
 use Rattle.writing.specs.Length.{growLength}
 
 -- ---- how the elements lie
-
--- the bytes of the file that are not used
-abbrev pub remaining : QueueFile → ℕ
-remaining q = q .«file_len» - usedBytes q
 
 -- the place behind an element, which may be 0
 abbrev pub behind : ℕ → Element → ℕ
@@ -44,7 +40,7 @@ wrapped q = not (eqb (q .«elem_cnt») 0) && leb (endOfLast q) (q .first .pos)
 -- growth commits where it moves last and is to zero what it moved from
 unfoldable pub commitsGrowth : QueueFile → ℕ → Bool
 commitsGrowth q span =
-    ltb (remaining q) span
+    ltb (remainingBytes q) span
     && (wrapped q
     && (ltb (q .last .pos) (q .first .pos)
     && q .settings .«overwrite_on_remove»))
@@ -61,7 +57,7 @@ withinImage len c = onCount Refused c (λ n. demand (leb n len) (Refused bufferT
 unfoldable pub judgeLength : QueueFile → ℕ → ℕ → ℕ → ℕ → Count
 judgeLength q len span commits elements =
     onVerdict Refused (judgeNumbers q (commits + growthCommits q span) elements)
-    (withinImage len (growLength (q .«file_len») (remaining q) span))
+    (withinImage len (growLength (q .«file_len») (remainingBytes q) span))
 
 -- ---- the walk in the old ring
 

@@ -23,16 +23,23 @@ use refusal::Refusal;
 pub fn judge_add(q: QueueFile, image_len: u64, payload_len: u64) -> Count
     ensures { λ r. ⌜ r ≡ judgeAdd q «image_len» «payload_len» ⌝ }
 {
-    if !q.is_sound(image_len) {
+    let Count::Bytes(remaining_bytes) = q.remaining_bytes(image_len) else {
         return Count::Refused(Refusal::UNSOUND);
-    }
+    };
     if payload_len >= 0x8000_0000 {
         return Count::Refused(Refusal::ELEMENT_TOO_BIG);
     }
     if q.elem_cnt + 1 >= 0x7fff_ffff {
         return Count::Refused(Refusal::TOO_MANY_ELEMENTS);
     }
-    judge_length(q, image_len, payload_len + V2_ELEM_OVERHEAD, 1, 1)
+    judge_length(
+        q,
+        image_len,
+        remaining_bytes,
+        payload_len + V2_ELEM_OVERHEAD,
+        1,
+        1,
+    )
 }
 
 // Stores an element at a place.

@@ -148,10 +148,10 @@ pub(crate) fn grow_to(q: QueueFile, image: &mut [u8], new_len: u64) -> QueueFile
 fn judge_expansion(q: QueueFile, image_len: u64, data_len: u64) -> Count
     ensures { λ r. ⌜ r ≡ judgeExpansion q «image_len» «data_len» ⌝ }
 {
-    if !q.is_sound(image_len) {
+    let Count::Bytes(remaining_bytes) = q.remaining_bytes(image_len) else {
         return Count::Refused(Refusal::UNSOUND);
-    }
-    judge_length(q, image_len, data_len, 0, 0)
+    };
+    judge_length(q, image_len, remaining_bytes, data_len, 0, 0)
 }
 
 // Makes room for data_len bytes, where there is too little.

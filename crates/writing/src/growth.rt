@@ -4,8 +4,8 @@ ghost use mathlib.Core.Bool.{true};
 ghost use Prim.Native.Nat.{_≤_};
 ghost use lib.ListN.{length};
 ghost use Rattle.queue.specs.Element.{Lies};
-ghost use Rattle.queue.specs.State.{sound};
-ghost use Rattle.writing.specs.Growth.{remaining, endOfLast, wrapped, commitsGrowth, growthCommits, withinImage, judgeLength, walkOldRing, checkGrowth, Planned};
+ghost use Rattle.queue.specs.State.{remainingBytes, sound};
+ghost use Rattle.writing.specs.Growth.{endOfLast, wrapped, commitsGrowth, growthCommits, withinImage, judgeLength, walkOldRing, checkGrowth, Planned};
 use crate::committing::judge_numbers;
 use crate::expanded_len::compute_expanded_len;
 use format::ParsedHeader;
@@ -41,7 +41,7 @@ pub(crate) fn wraps(q: QueueFile) -> bool
 // Whether growth commits: it moves last, and zeroes what it moved from.
 fn commits_growth(q: QueueFile, remaining_bytes: u64, data_len: u64) -> bool
     requires { ⌜ ((q .«elem_cnt» ≡ 0 → ⊥) → Lies (q .«file_len») (q .«file_len») (q .last)) ⌝ }
-    requires { ⌜ «remaining_bytes» ≡ remaining q ⌝ }
+    requires { ⌜ «remaining_bytes» ≡ remainingBytes q ⌝ }
     ensures { λ r. ⌜ r ≡ commitsGrowth q «data_len» ⌝ }
 {
     if remaining_bytes >= data_len {
@@ -61,7 +61,7 @@ fn commits_growth(q: QueueFile, remaining_bytes: u64, data_len: u64) -> bool
 
 fn growth_commits(q: QueueFile, remaining_bytes: u64, data_len: u64) -> u64
     requires { ⌜ ((q .«elem_cnt» ≡ 0 → ⊥) → Lies (q .«file_len») (q .«file_len») (q .last)) ⌝ }
-    requires { ⌜ «remaining_bytes» ≡ remaining q ⌝ }
+    requires { ⌜ «remaining_bytes» ≡ remainingBytes q ⌝ }
     ensures { λ r. ⌜ (r ≡ growthCommits q «data_len») × (r ≤ 1) ⌝ }
 {
     if commits_growth(q, remaining_bytes, data_len) {
@@ -88,16 +88,14 @@ fn within_image(len: Count, image_len: u64) -> Count
 pub(crate) fn judge_length(
     q: QueueFile,
     image_len: u64,
+    remaining_bytes: u64,
     data_len: u64,
     commits: u64,
     elements: u64,
 ) -> Count
-    requires { ⌜ (sound q «image_len» ≡ true) × (commits ≤ 1) × (elements ≤ 1) ⌝ }
+    requires { ⌜ (sound q «image_len» ≡ true) × («remaining_bytes» ≡ remainingBytes q) × (commits ≤ 1) × (elements ≤ 1) ⌝ }
     ensures { λ r. ⌜ r ≡ judgeLength q «image_len» «data_len» commits elements ⌝ }
 {
-    let Count::Bytes(remaining_bytes) = q.remaining_bytes(image_len) else {
-        return Count::Refused(Refusal::UNSOUND);
-    };
     let all = commits + growth_commits(q, remaining_bytes, data_len);
     if let Verdict::Refused(refusal) = judge_numbers(q, all, elements) {
         return Count::Refused(refusal);

@@ -1,27 +1,54 @@
--- `writing::expansion::judge_expansion` meets its contract: 28, then what the length says. Assumes nothing.
-use mathlib.Core.Path.{sym, _∙_}
+-- `writing::expansion::judge_expansion` meets its contract: a state that answers its remaining bytes is sound, and the length decides.
+-- Assumes nothing.
+use mathlib.Core.Path.{sym}
 use native.Mathlib.Omega.{arith}
 use borrow.Author.Needs.{needs}
-use Rattle.refusal.proofs.Laws.{pass, stop, flag-no, flag-yes}
+use Rattle.refusal.proofs.Laws.{stop, met}
 use Rattle.writing.specs.Expansion.{judgeExpansion}
+use Rattle.writing.proofs.StateLaws.{remaining-known, remaining-refused}
 use Rattle.writing.proofs.expansion.judge_expansion.Statement.{statement}
 use Rattle.writing.proofs.expansion.judge_expansion.Tie as tie
 
-is-sound-requires : tie.Need-is-sound-requires
-is-sound-requires c κs = search needs
+remaining-bytes-requires : tie.Need-remaining-bytes-requires
+remaining-bytes-requires c κs = search needs
+
+enum-known-remaining-bytes : tie.Need-enum-known-remaining-bytes
+enum-known-remaining-bytes c = search needs
+
+enum-told : tie.Need-enum-told
+enum-told c = search needs
 
 returns : tie.Need-returns
 unfolding judgeExpansion
-returns c = sym (stop _ _ _ (flag-no _ _ (c .before .is-sound .ensures) (c .if1 .taken)))
+returns c =
+    let r = c .before .before in
+    let a = r .before .args in
+    sym (stop _ _ _ (remaining-refused (a .q) (a .image-len) _ _ (r .remaining-bytes .ensures) (c .enum-told .given .1)))
 
 judge-length-requires : tie.Need-judge-length-requires
-judge-length-requires c κs = (flag-yes _ _ (c .before .is-sound .ensures) (c .if1 .left), omega arith, omega arith)
+judge-length-requires c κs =
+    let k = c .before in
+    let r = k .before .before in
+    let a = r .before .args in
+    let s = remaining-known (a .q) (a .image-len) _ _ (r .remaining-bytes .ensures) (k .remaining-bytes2 .given .1) in
+    (s .0, s .1, omega arith, omega arith)
 
 returns-2 : tie.Need-returns-2
 unfolding judgeExpansion
 returns-2 c =
-    let i = c .before in
-    c .judge-length .ensures ∙ sym (pass _ _ _ (flag-yes _ _ (i .before .is-sound .ensures) (i .if1 .left)))
+    let k = c .before .before in
+    let r = k .before .before in
+    let a = r .before .args in
+    met _ _ _ (remaining-known (a .q) (a .image-len) _ _ (r .remaining-bytes .ensures) (k .remaining-bytes2 .given .1) .0)
+    (c .judge-length .ensures)
 
 pub judge-expansion-spec : {M : Type 1} → statement M
-judge-expansion-spec = tie.close (tie.spec is-sound-requires returns judge-length-requires returns-2)
+judge-expansion-spec =
+    tie.close
+    (tie.spec
+    remaining-bytes-requires
+    enum-known-remaining-bytes
+    enum-told
+    returns
+    judge-length-requires
+    returns-2)
