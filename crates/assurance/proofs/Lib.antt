@@ -1,2 +1,7 @@
 pub mod Chain
 pub mod Laid
+pub mod TrailWalk
+pub mod Bridge
+pub mod LaidRecovery
+pub mod StrictOpening
+pub mod Reading

@@ -5,3 +5,4 @@ pub mod Growth
 pub mod Changes
 pub mod Reopening
 pub mod StrictOpening
+pub mod Reading

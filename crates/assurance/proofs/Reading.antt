@@ -1,0 +1,139 @@
+-- Peek and iteration read the elements where they stand. Assumes nothing.
+use mathlib.Core.Path.{_≡_, refl, sym, ap, _∙_}
+use mathlib.Core.Bool.{Bool, cond}
+use mathlib.Core.List.{List, [], _∷_}
+use Prim.Native.Nat.{ℕ, zero, suc, _+_, _-_, _%_, _≤_, _<_}
+use native.Mathlib.Nat.{mod-eq-of-lt, mod-lt, mod-mod, mod-add-mod}
+use native.Mathlib.Omega.{arith}
+use lib.ListN.{length}
+use lib.Dec.{eqb, leb, ltb}
+use borrow.Author.Tests.{le-leb, lt-leb, lt-ltb, ne-eqb}
+use Rattle.refusal.specs.declared.Verdict as Verdicts
+use Rattle.refusal.specs.declared.Verdict.the-variants as Verdict
+use Rattle.refusal.proofs.Laws.{pass}
+use Rattle.format.specs.declared.element.ParsedHeader.{ParsedHeader}
+use Rattle.format.specs.declared.element.ParsedHeader.the-variants as Parsed
+use Rattle.queue.specs.Answers.{onHeader, onVerdict}
+use Rattle.queue.specs.Element.{capacity, elementHere, headerAt, payloadAt, footerVerdict}
+use Rattle.queue.specs.State.{sound}
+use Rattle.queue.specs.Peek.{fitPeek, checkPeek, judgePeek}
+use Rattle.queue.specs.Iter.{cursorAt, startOf, stepHere, stepOn, judgeStep}
+use Rattle.queue.specs.declared.element.Element.{Element}
+use Rattle.queue.specs.declared.state.QueueFile.{QueueFile}
+use Rattle.queue.specs.declared.peek.Peeked as Peek
+use Rattle.queue.specs.declared.peek.Peeked.the-variants as Peeked
+use Rattle.queue.specs.declared.iter.Cursor.{Cursor}
+use Rattle.queue.specs.declared.iter.Stepped as Answer
+use Rattle.queue.specs.declared.iter.Stepped.the-variants as Stepped
+use Rattle.writing.proofs.Choices.{chosen, left-out}
+use Rattle.assurance.specs.Held.{Held, elementsOf, sequencesOf}
+use Rattle.assurance.specs.Reading.{upFrom, LinkedIsOneRun, firstPayload, PeekGivesFirst, handedStep, handed, IterationGivesAll}
+use Rattle.assurance.proofs.Chain.{Elem, headerOf, span, total, Holds, Chain, Rising, header-in}
+use Rattle.assurance.proofs.Laid.{Laid, laid-sound, laid-some}
+use Rattle.assurance.proofs.TrailWalk.{holds-same}
+use Rattle.assurance.proofs.Bridge.{Unrolled, linked-laid, heldAt, heldAll, laid-elements}
+
+-- ---- one run
+
+rising-up : (es : List Elem) (size p : ℕ) (e : Elem) → Rising e es → sequencesOf (heldAll size p (e ∷ es)) ≡ upFrom (e .seq) (suc (length es))
+rising-up [] size p e r = refl
+rising-up (f ∷ es) size p e r =
+    ap (λ (l : List ℕ). e .seq ∷ l) (rising-up es size (p + span e) f (r .1) ∙ ap (λ (s : ℕ). upFrom s (suc (length es))) (r .0))
+
+pub linked-is-one-run : LinkedIsOneRun
+linked-is-one-run img q w =
+    let u = linked-laid img q w in
+    let k = u .laid in
+    let s : u .e .seq ≡ q .format .«next_seq» - q .«elem_cnt» = omega (arith, k .seqs, k .count) in
+    ap sequencesOf (laid-elements img q (u .e) (u .es) k)
+    ∙ rising-up (u .es) (capacity (q .«file_len»)) (q .first .pos) (u .e) (k .rising)
+    ∙ ap (λ (x : ℕ). upFrom x (suc (length (u .es)))) s
+    ∙ ap (upFrom (q .format .«next_seq» - q .«elem_cnt»)) (sym (k .count))
+
+-- ---- an element that stands, as the state knows it
+
+footer-stands : (img : List ℕ) (file p : ℕ) (e : Elem) → Holds img (capacity file) p e
+    → footerVerdict img file (elementHere p (headerOf e)) ≡ Verdict.Granted
+unfolding footerVerdict payloadAt
+footer-stands img file p e h = rw (h .payload) (h .footer)
+
+payload-stands : (img : List ℕ) (file p : ℕ) (e : Elem) → Holds img (capacity file) p e → payloadAt img file (elementHere p (headerOf e)) ≡ e .payload
+unfolding payloadAt
+payload-stands img file p e h = h .payload
+
+-- ---- peek
+
+module _ (img : List ℕ) (q : QueueFile) (e : Elem) (es : List Elem) (k : Laid img q e es) where
+  first-known : q .first ≡ elementHere (q .first .pos) (headerOf e)
+  first-known = rw (← k .first-len, ← k .first-seq)
+
+  peeked : (room : ℕ) → q .first .len ≤ room → judgePeek q img room ≡ Peeked.Payload (q .first .len)
+  unfolding judgePeek fitPeek
+  peeked room l =
+      let fits : fitPeek q (length img) room ≡ Peeked.Payload (q .first .len) =
+      pass _ _ _ (laid-sound img q e es k)
+      ∙ sym (left-out _ _ _ (ne-eqb (q .«elem_cnt») 0 (laid-some img q e es k)))
+      ∙ pass _ _ _ (le-leb (q .first .len) room l) in
+      let foot : footerVerdict img (q .«file_len») (q .first) ≡ Verdict.Granted =
+      ap (footerVerdict img (q .«file_len»)) first-known ∙ footer-stands img (q .«file_len») (q .first .pos) e (k .holds .0) in
+      ap (checkPeek img q) fits ∙ ap (λ (v : Verdicts.Verdict). onVerdict Peeked.Refused v (Peeked.Payload (q .first .len))) foot
+
+pub peek-gives-first : PeekGivesFirst
+peek-gives-first img q room w l =
+    let u = linked-laid img q w in
+    let k = u .laid in
+    (
+      peeked img q (u .e) (u .es) k room l,
+      ap (payloadAt img (q .«file_len»)) (first-known img q (u .e) (u .es) k)
+          ∙ payload-stands img (q .«file_len») (q .first .pos) (u .e) (k .holds .0)
+          ∙ ap firstPayload (sym (laid-elements img q (u .e) (u .es) k)),
+    )
+
+-- ---- iteration
+
+module _ (img : List ℕ) (q : QueueFile) (room : ℕ) (ok : sound q (length img) ≡ Bool.true) (wide : capacity (q .«file_len») ≤ room)
+    (ring : 0 < capacity (q .«file_len»)) where
+  abbrev size : ℕ
+  size = capacity (q .«file_len»)
+
+  one : (index p : ℕ) (e : Elem) → Holds img size p e → span e ≤ size → index < q .«elem_cnt»
+      → judgeStep q img (cursorAt index (p % size)) room ≡ Stepped.Element (stepHere (q .«file_len») (cursorAt index (p % size)) (headerOf e))
+  unfolding judgeStep
+  one index p e h l i =
+      let w = holds-same img size p (p % size) e (sym (mod-mod p size)) h in
+      let a : headerAt img (q .«file_len») (p % size) ≡ Parsed.Header (headerOf e) = header-in img (q .«file_len») (p % size) ∙ w .header in
+      let low : p % size < size = mod-lt p ring in
+      pass _ _ _ ok
+      ∙ sym (left-out _ _ _ (lt-leb (q .«elem_cnt») index i))
+      ∙ pass _ _ _ (lt-ltb (p % size) size low)
+      ∙ ap (λ (d : ParsedHeader). onHeader Stepped.Refused d (stepOn img (q .«file_len») (cursorAt index (p % size)) room)) a
+      ∙ pass _ _ _ (le-leb (length (e .payload)) room (omega arith))
+      ∙ ap (λ (v : Verdicts.Verdict). onVerdict Stepped.Refused v (Stepped.Element (stepHere (q .«file_len») (cursorAt index (p % size)) (headerOf e))))
+      (footer-stands img (q .«file_len») (p % size) e w)
+
+  ended : (index p : ℕ) → q .«elem_cnt» ≤ index → judgeStep q img (cursorAt index p) room ≡ Stepped.End
+  unfolding judgeStep
+  ended index p l = pass _ _ _ ok ∙ sym (chosen _ _ _ (le-leb (q .«elem_cnt») index l))
+
+  all : (es : List Elem) (index p steps : ℕ) → Chain img size p es → total es ≤ size → index + length es ≡ q .«elem_cnt» → length es ≤ steps
+      → handed q img room steps (cursorAt index (p % size)) ≡ heldAll size p es
+  unfolding handed
+  all [] index p zero c l i s = refl
+  all [] index p (suc steps) c l i s =
+      ap (λ (a : Answer.Stepped). handedStep img (q .«file_len») a (handed q img room steps)) (ended index (p % size) (omega arith))
+  all (e ∷ es) index p zero c l i s = absurd (omega arith)
+  all (e ∷ es) index p (suc steps) c l i s =
+      let w = holds-same img size p (p % size) e (sym (mod-mod p size)) (c .0) in
+      ap (λ (a : Answer.Stepped). handedStep img (q .«file_len») a (handed q img room steps)) (one index p e (c .0) (omega arith) (omega arith))
+      ∙ rw (payload-stands img (q .«file_len») (p % size) e w, mod-add-mod p size (span e),
+      all es (index + 1) (p + span e) steps (c .1) (omega arith) (omega arith) (omega arith))
+
+pub iteration-gives-all : IterationGivesAll
+iteration-gives-all img q room steps w wide enough =
+    let u = linked-laid img q w in
+    let k = u .laid in
+    let size : ℕ = capacity (q .«file_len») in
+    ap (λ (p : ℕ). handed q img room steps (cursorAt 0 p)) (sym (mod-eq-of-lt {n = q .first .pos} {m = size} (k .first-low)))
+    ∙ all img q room (laid-sound img q (u .e) (u .es) k) wide (omega (arith, k .first-low)) (u .e ∷ u .es) 0 (q .first .pos) steps (k .holds)
+    (k .fits) (omega (arith, k .count)) (omega (arith, k .count))
+    ∙ sym (laid-elements img q (u .e) (u .es) k)
