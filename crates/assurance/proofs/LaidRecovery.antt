@@ -18,9 +18,10 @@ use Rattle.queue.specs.Recover.{recoverHead}
 use Rattle.queue.specs.declared.state.QueueFile.{QueueFile}
 use Rattle.queue.specs.declared.recover.Recovered.the-variants.{Head}
 use Rattle.assurance.specs.Held.{Held, elementsOf, placesBack}
-use Rattle.assurance.specs.Recovery.{Trail, Recovery, RecoveryIsExact}
+use Rattle.assurance.specs.Recovery.{Trail, Recovery}
 use Rattle.assurance.proofs.Chain.{Elem, headerOf, span, Holds, Chain, Rising, Backs, lastOf, lastFrom, header-in, header-mod, rising-last}
 use Rattle.assurance.proofs.Laid.{Laid}
+use Rattle.assurance.proofs.Recovery.{recovery-is-exact}
 use Rattle.assurance.proofs.Bridge.{heldAll, laid-elements}
 
 -- ---- a trail, and one place more behind its last
@@ -127,7 +128,7 @@ back-over (f ∷ es) img file p e c r b =
 
 -- ---- of a queue
 
-module _ (exact : RecoveryIsExact) (img : List ℕ) (q : QueueFile) (e : Elem) (es : List Elem) (k : Laid img q e es) where
+module _ (img : List ℕ) (q : QueueFile) (e : Elem) (es : List Elem) (k : Laid img q e es) where
   over : BackOver img (q .«file_len») (q .first .pos) e es (placesBack (elementsOf q img))
   over =
       rw (laid-elements img q e es k)
@@ -141,7 +142,7 @@ module _ (exact : RecoveryIsExact) (img : List ℕ) (q : QueueFile) (e : Elem) (
       let o = over in
       ap (λ (s : ℕ). recoverHead img (q .«file_len») (q .last .pos) s (q .«elem_cnt»)) (k .last-seq)
       ∙ ap (λ (n : ℕ). recoverHead img (q .«file_len») (q .last .pos) (lastOf e es .seq) n) (k .count)
-      ∙ exact img (q .«file_len») (q .last .pos) (lastOf e es .seq) (suc (length es)) (q .first)
+      ∙ recovery-is-exact img (q .«file_len») (q .last .pos) (lastOf e es .seq) (suc (length es)) (q .first)
       (omega (arith, k .first-low)) (omega (arith, k .lengths .real, k .lengths .inside)) (omega arith) .1
       (record {
         places = placesBack (elementsOf q img);

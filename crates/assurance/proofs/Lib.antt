@@ -2,6 +2,10 @@ pub mod Chain
 pub mod Laid
 pub mod TrailWalk
 pub mod Bridge
+pub mod Recovery
+pub mod TailSequence
+pub mod RecoverySamples
 pub mod LaidRecovery
 pub mod StrictOpening
 pub mod Reading
+pub mod OpeningSamples

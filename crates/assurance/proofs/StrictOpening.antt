@@ -43,9 +43,9 @@ use Rattle.queue.specs.declared.opening.Opened.the-variants.{Queue, Refused}
 use Rattle.queue.proofs.AnswerLaws.{on-granted}
 use Rattle.queue.proofs.Sound.{sound-ends}
 use Rattle.assurance.specs.Linked.{Stands, Linked, Empty}
-use Rattle.assurance.specs.Recovery.{RecoveryIsExact}
 use Rattle.assurance.specs.StrictOpening.{WholeTrail, StrictOpeningIsExact}
 use Rattle.assurance.proofs.Chain.{headerOf, header-in}
+use Rattle.assurance.proofs.Recovery.{recovery-is-exact}
 use Rattle.assurance.proofs.TrailWalk.{same-header, Found, trail-found}
 
 no-queue : {r : Refusal} {q : QueueFile} → Refused r ≡ Queue q → ⊥
@@ -80,177 +80,176 @@ here-stands : (img : List ℕ) (file p : ℕ) (h : V2ElementHeader) → headerAt
 here-stands img file p h e = record { back = h .«prev_pos»; stands = e }
 
 -- the head, found or recovered
-module _ (exact : RecoveryIsExact) where
-  recovered-stands : (img : List ℕ) (file tail tailSeq n : ℕ) (e : Element) → 1 ≤ n → recoverHead img file tail tailSeq n ≡ Recovered.Head e
-      → Standing img file e
-  unfolding recoverHead
-  recovered-stands img file tail tailSeq n e l a =
-      let ring = there-ring 8192 (length img) file (granted _ _ _ _ no-head a .0) in
-      let k = exact img file tail tailSeq n e (ring .0) (ring .1) l .0 a in
-      subst (Standing img file) (sym (k .answer))
-      (here-stands img file (getD (k .places) (n - 1) 0) (k .trail .header (n - 1)) (k .trail .valid (n - 1) (omega (arith, k .many))))
+recovered-stands : (img : List ℕ) (file tail tailSeq n : ℕ) (e : Element) → 1 ≤ n → recoverHead img file tail tailSeq n ≡ Recovered.Head e
+    → Standing img file e
+unfolding recoverHead
+recovered-stands img file tail tailSeq n e l a =
+    let ring = there-ring 8192 (length img) file (granted _ _ _ _ no-head a .0) in
+    let k = recovery-is-exact img file tail tailSeq n e (ring .0) (ring .1) l .0 a in
+    subst (Standing img file) (sym (k .answer))
+    (here-stands img file (getD (k .places) (n - 1) 0) (k .trail .header (n - 1)) (k .trail .valid (n - 1) (omega (arith, k .many))))
 
-  head-stands : (img : List ℕ) (file p : ℕ) (d : ParsedHeader) (recovered : Answered.Recovered) (e : Element) → headerAt img file p ≡ d
-      → (recovered ≡ Recovered.Head e → Standing img file e) → orRecovered d p recovered ≡ Recovered.Head e → Standing img file e
-  head-stands img file p (Parsed.Header h) recovered e a k o =
-      let i : elementHere p h ≡ e = cc in
-      subst (Standing img file) i (here-stands img file p h a)
-  head-stands img file p (Parsed.Refused r) recovered e a k o = k o
+head-stands : (img : List ℕ) (file p : ℕ) (d : ParsedHeader) (recovered : Answered.Recovered) (e : Element) → headerAt img file p ≡ d
+    → (recovered ≡ Recovered.Head e → Standing img file e) → orRecovered d p recovered ≡ Recovered.Head e → Standing img file e
+head-stands img file p (Parsed.Header h) recovered e a k o =
+    let i : elementHere p h ≡ e = cc in
+    subst (Standing img file) i (here-stands img file p h a)
+head-stands img file p (Parsed.Refused r) recovered e a k o = k o
 
-  first-stands : (img : List ℕ) (file p : ℕ) (last : Element) (n : ℕ) (e : Element) → 1 ≤ n
-      → firstElement img file p last n ≡ Recovered.Head e → Standing img file e
-  unfolding firstElement
-  first-stands img file p last n e l o =
-      head-stands img file p (headerAt img file p) (recoverHead img file (last .pos) (last .seq) n) e refl
-      (recovered-stands img file (last .pos) (last .seq) n e l) o
+first-stands : (img : List ℕ) (file p : ℕ) (last : Element) (n : ℕ) (e : Element) → 1 ≤ n
+    → firstElement img file p last n ≡ Recovered.Head e → Standing img file e
+unfolding firstElement
+first-stands img file p last n e l o =
+    head-stands img file p (headerAt img file p) (recoverHead img file (last .pos) (last .seq) n) e refl
+    (recovered-stands img file (last .pos) (last .seq) n e l) o
 
-  -- through the steps of opening
-  on-place : (img : List ℕ) (p : Placed) (next : ℕ → Opened) → ((x : ℕ) → EndsStand img (next x)) → EndsStand img (onPlace Refused p next)
-  on-place img (Placed.Refused r) next k = refused-ends img r
-  on-place img (Placed.At x) next k = k x
+-- through the steps of opening
+on-place : (img : List ℕ) (p : Placed) (next : ℕ → Opened) → ((x : ℕ) → EndsStand img (next x)) → EndsStand img (onPlace Refused p next)
+on-place img (Placed.Refused r) next k = refused-ends img r
+on-place img (Placed.At x) next k = k x
 
-  in-sequence : (img : List ℕ) (file p seq : ℕ) (d : ParsedHeader) → headerAt img file p ≡ d → (next : V2ElementHeader → Opened)
-      → ((h : V2ElementHeader) → headerAt img file p ≡ Parsed.Header h → EndsStand img (next h))
-      → EndsStand img (onHeader Refused (inSequence seq d) next)
-  in-sequence img file p seq (Parsed.Refused r) a next k = refused-ends img r
-  in-sequence img file p seq (Parsed.Header h) a next k =
-      keep (λ (d : ParsedHeader). EndsStand img (onHeader Refused d next)) _ _ _ (refused-ends img _) (λ b. k h a)
+in-sequence : (img : List ℕ) (file p seq : ℕ) (d : ParsedHeader) → headerAt img file p ≡ d → (next : V2ElementHeader → Opened)
+    → ((h : V2ElementHeader) → headerAt img file p ≡ Parsed.Header h → EndsStand img (next h))
+    → EndsStand img (onHeader Refused (inSequence seq d) next)
+in-sequence img file p seq (Parsed.Refused r) a next k = refused-ends img r
+in-sequence img file p seq (Parsed.Header h) a next k =
+    keep (λ (d : ParsedHeader). EndsStand img (onHeader Refused d next)) _ _ _ (refused-ends img _) (λ b. k h a)
 
-  from-head : (img : List ℕ) (r : Answered.Recovered) (next : Element → Opened) → ((e : Element) → r ≡ Recovered.Head e → EndsStand img (next e))
-      → EndsStand img (fromHead r next)
-  from-head img (Recovered.Refused r) next k = refused-ends img r
-  from-head img (Recovered.Head e) next k = k e refl
+from-head : (img : List ℕ) (r : Answered.Recovered) (next : Element → Opened) → ((e : Element) → r ≡ Recovered.Head e → EndsStand img (next e))
+    → EndsStand img (fromHead r next)
+from-head img (Recovered.Refused r) next k = refused-ends img r
+from-head img (Recovered.Head e) next k = k e refl
 
-  ends-stand : (img : List ℕ) (q : QueueFile) (d : SlotData) → (q .«elem_cnt» ≡ 0 → ⊥) → EndsStand img (openEnds img q d)
-  unfolding openEnds
-  ends-stand img q d n =
-      on-place img (toLogical (d .«first_position»)) _ (λ first.
-      on-place img (toLogical (d .«last_position»)) _ (λ last.
-      in-sequence img (q .«file_len») last (d .«next_sequence_number» - 1) (headerAt img (q .«file_len») last) refl _ (λ h a.
-      from-head img (firstElement img (q .«file_len») first (elementHere last h) (q .«elem_cnt»)) _ (λ e f q′ i m.
-      let s = first-stands img (q .«file_len») first (elementHere last h) (q .«elem_cnt») e (omega (arith, n)) f in
-      let w : withEnds q e (elementHere last h) ≡ q′ = same-queue _ _ i in
-      rw (sym w) (s, here-stands img (q .«file_len») last h a)))))
+ends-stand : (img : List ℕ) (q : QueueFile) (d : SlotData) → (q .«elem_cnt» ≡ 0 → ⊥) → EndsStand img (openEnds img q d)
+unfolding openEnds
+ends-stand img q d n =
+    on-place img (toLogical (d .«first_position»)) _ (λ first.
+    on-place img (toLogical (d .«last_position»)) _ (λ last.
+    in-sequence img (q .«file_len») last (d .«next_sequence_number» - 1) (headerAt img (q .«file_len») last) refl _ (λ h a.
+    from-head img (firstElement img (q .«file_len») first (elementHere last h) (q .«elem_cnt»)) _ (λ e f q′ i m.
+    let s = first-stands img (q .«file_len») first (elementHere last h) (q .«elem_cnt») e (omega (arith, n)) f in
+    let w : withEnds q e (elementHere last h) ≡ q′ = same-queue _ _ i in
+    rw (sym w) (s, here-stands img (q .«file_len») last h a)))))
 
-  opened-ends : (img : List ℕ) (real : ℕ) (settings : Settings) (o : Election.Elected) → EndsStand img (fromState img real settings o)
-  opened-ends img real settings (Elected.Refused r) q e n = absurd (no-queue e)
-  opened-ends img real settings (Elected.Slot o) q e n = go (is-none (o .slot .«element_count»))
-    where
-      go : Dec (o .slot .«element_count» ≡ 0) → Standing img (q .«file_len») (q .first) × Standing img (q .«file_len») (q .last)
-      go (yes y) =
-          let w : builtQueue o real settings ≡ q =
-          same-queue _ _ (sym (ap (λ (b : Bool). cond b (Queue (builtQueue o real settings)) (openEnds img (builtQueue o real settings) (o .slot))) (eq-eqb _ _ y)) ∙ e) in
-          absurd (n (ap (λ (x : QueueFile). x .«elem_cnt») (sym w) ∙ y))
-      go (no x) =
-          ends-stand img (builtQueue o real settings) (o .slot) x q
-          (sym (ap (λ (b : Bool). cond b (Queue (builtQueue o real settings)) (openEnds img (builtQueue o real settings) (o .slot))) (ne-eqb _ _ x)) ∙ e) n
+opened-ends : (img : List ℕ) (real : ℕ) (settings : Settings) (o : Election.Elected) → EndsStand img (fromState img real settings o)
+opened-ends img real settings (Elected.Refused r) q e n = absurd (no-queue e)
+opened-ends img real settings (Elected.Slot o) q e n = go (is-none (o .slot .«element_count»))
+  where
+    go : Dec (o .slot .«element_count» ≡ 0) → Standing img (q .«file_len») (q .first) × Standing img (q .«file_len») (q .last)
+    go (yes y) =
+        let w : builtQueue o real settings ≡ q =
+        same-queue _ _ (sym (ap (λ (b : Bool). cond b (Queue (builtQueue o real settings)) (openEnds img (builtQueue o real settings) (o .slot))) (eq-eqb _ _ y)) ∙ e) in
+        absurd (n (ap (λ (x : QueueFile). x .«elem_cnt») (sym w) ∙ y))
+    go (no x) =
+        ends-stand img (builtQueue o real settings) (o .slot) x q
+        (sym (ap (λ (b : Bool). cond b (Queue (builtQueue o real settings)) (openEnds img (builtQueue o real settings) (o .slot))) (ne-eqb _ _ x)) ∙ e) n
 
-  pub open-stands : (img : List ℕ) (real : ℕ) (settings : Settings) → EndsStand img (openQueue img real settings)
-  unfolding openQueue
-  open-stands img real settings = opened-ends img real settings (openState img real)
+pub open-stands : (img : List ℕ) (real : ℕ) (settings : Settings) → EndsStand img (openQueue img real settings)
+unfolding openQueue
+open-stands img real settings = opened-ends img real settings (openState img real)
 
-  -- ---- strict opening
+-- ---- strict opening
 
-  -- what it asks of a plain answer
-  record Asked (img : List ℕ) (q : QueueFile) (a : Opened) : Type 0 where
-    pub plain : a ≡ Queue q
-    pub sound : sound q (length img) ≡ true
-    pub trail : checkTrail q img ≡ Verdict.Granted
+-- what it asks of a plain answer
+record Asked (img : List ℕ) (q : QueueFile) (a : Opened) : Type 0 where
+  pub plain : a ≡ Queue q
+  pub sound : sound q (length img) ≡ true
+  pub trail : checkTrail q img ≡ Verdict.Granted
 
-  asked : (img : List ℕ) (a : Opened) (q : QueueFile) → strictly img a ≡ Queue q → Asked img q a
-  asked img (Refused r) q e = absurd (no-queue e)
-  asked img (Queue p) q e =
-      let s = granted _ _ _ _ no-queue e in
-      let t = on-granted Refused (checkTrail p img) (Queue p) (Queue q) (λ r. no-queue) (s .1) in
-      let i : p ≡ q = same-queue p q (t .1) in
-      record {
-        plain = t .1;
-        sound = ap (λ (x : QueueFile). sound x (length img)) (sym i) ∙ s .0;
-        trail = ap (λ (x : QueueFile). checkTrail x img) (sym i) ∙ t .0;
-      }
+asked : (img : List ℕ) (a : Opened) (q : QueueFile) → strictly img a ≡ Queue q → Asked img q a
+asked img (Refused r) q e = absurd (no-queue e)
+asked img (Queue p) q e =
+    let s = granted _ _ _ _ no-queue e in
+    let t = on-granted Refused (checkTrail p img) (Queue p) (Queue q) (λ r. no-queue) (s .1) in
+    let i : p ≡ q = same-queue p q (t .1) in
+    record {
+      plain = t .1;
+      sound = ap (λ (x : QueueFile). sound x (length img)) (sym i) ∙ s .0;
+      trail = ap (λ (x : QueueFile). checkTrail x img) (sym i) ∙ t .0;
+    }
 
-  strict-asked : (img : List ℕ) (real : ℕ) (settings : Settings) (q : QueueFile) → openStrictly img real settings ≡ Queue q
-      → Asked img q (openQueue img real settings)
-  unfolding openStrictly
-  strict-asked img real settings q e = asked img (openQueue img real settings) q e
+strict-asked : (img : List ℕ) (real : ℕ) (settings : Settings) (q : QueueFile) → openStrictly img real settings ≡ Queue q
+    → Asked img q (openQueue img real settings)
+unfolding openStrictly
+strict-asked img real settings q e = asked img (openQueue img real settings) q e
 
-  asked-strict : (img : List ℕ) (real : ℕ) (settings : Settings) (q : QueueFile) → Asked img q (openQueue img real settings)
-      → openStrictly img real settings ≡ Queue q
-  unfolding openStrictly
-  asked-strict img real settings q k =
-      ap (strictly img) (k .plain) ∙ pass _ _ _ (k .sound) ∙ ap (λ (v : Answer.Verdict). onVerdict Refused v (Queue q)) (k .trail)
+asked-strict : (img : List ℕ) (real : ℕ) (settings : Settings) (q : QueueFile) → Asked img q (openQueue img real settings)
+    → openStrictly img real settings ≡ Queue q
+unfolding openStrictly
+asked-strict img real settings q k =
+    ap (strictly img) (k .plain) ∙ pass _ _ _ (k .sound) ∙ ap (λ (v : Answer.Verdict). onVerdict Refused v (Queue q)) (k .trail)
 
-  -- the trail of a queue with elements
-  trail-of : (q : QueueFile) (img : List ℕ) → (q .«elem_cnt» ≡ 0 → ⊥)
-      → checkTrail q img
-      ≡ trailFrom img (q .«file_len») (q .last .pos) (q .«elem_cnt») (q .first .pos) (q .format .«next_seq» - q .«elem_cnt») firstLink 0
-  unfolding checkTrail
-  trail-of q img n =
-      ap (λ (b : Bool). cond b Verdict.Granted
-      (trailFrom img (q .«file_len») (q .last .pos) (q .«elem_cnt») (q .first .pos) (q .format .«next_seq» - q .«elem_cnt») firstLink 0))
-      (ne-eqb _ _ n)
+-- the trail of a queue with elements
+trail-of : (q : QueueFile) (img : List ℕ) → (q .«elem_cnt» ≡ 0 → ⊥)
+    → checkTrail q img
+    ≡ trailFrom img (q .«file_len») (q .last .pos) (q .«elem_cnt») (q .first .pos) (q .format .«next_seq» - q .«elem_cnt») firstLink 0
+unfolding checkTrail
+trail-of q img n =
+    ap (λ (b : Bool). cond b Verdict.Granted
+    (trailFrom img (q .«file_len») (q .last .pos) (q .«elem_cnt») (q .first .pos) (q .format .«next_seq» - q .«elem_cnt») firstLink 0))
+    (ne-eqb _ _ n)
 
-  no-trail : (q : QueueFile) (img : List ℕ) → q .«elem_cnt» ≡ 0 → checkTrail q img ≡ Verdict.Granted
-  unfolding checkTrail
-  no-trail q img z =
-      ap (λ (b : Bool). cond b Verdict.Granted
-      (trailFrom img (q .«file_len») (q .last .pos) (q .«elem_cnt») (q .first .pos) (q .format .«next_seq» - q .«elem_cnt») firstLink 0))
-      (eq-eqb _ _ z)
+no-trail : (q : QueueFile) (img : List ℕ) → q .«elem_cnt» ≡ 0 → checkTrail q img ≡ Verdict.Granted
+unfolding checkTrail
+no-trail q img z =
+    ap (λ (b : Bool). cond b Verdict.Granted
+    (trailFrom img (q .«file_len») (q .last .pos) (q .«elem_cnt») (q .first .pos) (q .format .«next_seq» - q .«elem_cnt») firstLink 0))
+    (eq-eqb _ _ z)
 
-  -- the element that the walk found first is the one that stands there, so it names nothing
-  whole : (img : List ℕ) (real : ℕ) (settings : Settings) (q : QueueFile) → (q .«elem_cnt» ≡ 0 → ⊥) → Asked img q (openQueue img real settings)
-      → WholeTrail img q
-  whole img real settings q n k =
-      let ends = open-stands img real settings q (k .plain) n in
-      let file : ℕ = q .«file_len» in
-      let first : ℕ = q .first .pos in
-      let start : ℕ = q .format .«next_seq» - q .«elem_cnt» in
-      let t : trailFrom img file (q .last .pos) (q .«elem_cnt») first start firstLink 0 ≡ Verdict.Granted = sym (trail-of q img n) ∙ k .trail in
-      let m : suc (q .«elem_cnt» - 1) ≡ q .«elem_cnt» = omega (arith, n) in
-      let low = sound-ends q (length img) (k .sound) n .first-place in
-      let f : Found (q .«elem_cnt» - 1) img file (q .last .pos) start firstLink 0 first =
-      trail-found (q .«elem_cnt» - 1) img file (q .last .pos) start firstLink 0 first
-      (rw (m, mod-eq-of-lt {n = first} {m = capacity file} low) t) in
-      let same : Parsed.Header (record { «payload_len» = q .first .len; seq = q .first .seq; «prev_pos» = ends .0 .back }) ≡ Parsed.Header (headerOf (f .e)) =
-      sym (ends .0 .stands) ∙ header-in img file first ∙ f .holds .0 .header in
-      let back : ends .0 .back ≡ f .e .back = ap (λ (h : V2ElementHeader). h .«prev_pos») (same-header _ _ same) in
-      record {
-        linked = record {
-          sound = k .sound;
-          some = omega (arith, n);
-          first-back = 0;
-          first = rw (sym (back ∙ f .linked)) (ends .0 .stands);
-          last-back = ends .1 .back;
-          last = ends .1 .stands;
-          trail = t;
-        };
-        starts = refl;
-      }
+-- the element that the walk found first is the one that stands there, so it names nothing
+whole : (img : List ℕ) (real : ℕ) (settings : Settings) (q : QueueFile) → (q .«elem_cnt» ≡ 0 → ⊥) → Asked img q (openQueue img real settings)
+    → WholeTrail img q
+whole img real settings q n k =
+    let ends = open-stands img real settings q (k .plain) n in
+    let file : ℕ = q .«file_len» in
+    let first : ℕ = q .first .pos in
+    let start : ℕ = q .format .«next_seq» - q .«elem_cnt» in
+    let t : trailFrom img file (q .last .pos) (q .«elem_cnt») first start firstLink 0 ≡ Verdict.Granted = sym (trail-of q img n) ∙ k .trail in
+    let m : suc (q .«elem_cnt» - 1) ≡ q .«elem_cnt» = omega (arith, n) in
+    let low = sound-ends q (length img) (k .sound) n .first-place in
+    let f : Found (q .«elem_cnt» - 1) img file (q .last .pos) start firstLink 0 first =
+    trail-found (q .«elem_cnt» - 1) img file (q .last .pos) start firstLink 0 first
+    (rw (m, mod-eq-of-lt {n = first} {m = capacity file} low) t) in
+    let same : Parsed.Header (record { «payload_len» = q .first .len; seq = q .first .seq; «prev_pos» = ends .0 .back }) ≡ Parsed.Header (headerOf (f .e)) =
+    sym (ends .0 .stands) ∙ header-in img file first ∙ f .holds .0 .header in
+    let back : ends .0 .back ≡ f .e .back = ap (λ (h : V2ElementHeader). h .«prev_pos») (same-header _ _ same) in
+    record {
+      linked = record {
+        sound = k .sound;
+        some = omega (arith, n);
+        first-back = 0;
+        first = rw (sym (back ∙ f .linked)) (ends .0 .stands);
+        last-back = ends .1 .back;
+        last = ends .1 .stands;
+        trail = t;
+      };
+      starts = refl;
+    }
 
-  pub strict-opening-is-exact : StrictOpeningIsExact
-  strict-opening-is-exact img real settings q = (there, back)
-    where
-      there : openStrictly img real settings ≡ Queue q → (openQueue img real settings ≡ Queue q) × (WholeTrail img q ⊎ Empty img q)
-      there e = go (is-none (q .«elem_cnt»))
-        where
-          k : Asked img q (openQueue img real settings)
-          k = strict-asked img real settings q e
+pub strict-opening-is-exact : StrictOpeningIsExact
+strict-opening-is-exact img real settings q = (there, back)
+  where
+    there : openStrictly img real settings ≡ Queue q → (openQueue img real settings ≡ Queue q) × (WholeTrail img q ⊎ Empty img q)
+    there e = go (is-none (q .«elem_cnt»))
+      where
+        k : Asked img q (openQueue img real settings)
+        k = strict-asked img real settings q e
 
-          go : Dec (q .«elem_cnt» ≡ 0) → (openQueue img real settings ≡ Queue q) × (WholeTrail img q ⊎ Empty img q)
-          go (yes y) = (k .plain, inr (record { sound = k .sound; none = y }))
-          go (no x) = (k .plain, inl (whole img real settings q x k))
+        go : Dec (q .«elem_cnt» ≡ 0) → (openQueue img real settings ≡ Queue q) × (WholeTrail img q ⊎ Empty img q)
+        go (yes y) = (k .plain, inr (record { sound = k .sound; none = y }))
+        go (no x) = (k .plain, inl (whole img real settings q x k))
 
-      back : openQueue img real settings ≡ Queue q → WholeTrail img q ⊎ Empty img q → openStrictly img real settings ≡ Queue q
-      back o (inr z) =
-          asked-strict img real settings q (record { plain = o; sound = z .sound; trail = no-trail q img (z .none) })
-      back o (inl w) =
-          asked-strict img real settings q
-          (record {
-            plain = o;
-            sound = w .linked .sound;
-            trail =
-                trail-of q img (λ z. omega (arith, w .linked .some))
-                ∙ ap (λ (b : ℕ). trailFrom img (q .«file_len») (q .last .pos) (q .«elem_cnt») (q .first .pos) (q .format .«next_seq» - q .«elem_cnt») b 0)
-                (sym (w .starts))
-                ∙ w .linked .trail;
-          })
+    back : openQueue img real settings ≡ Queue q → WholeTrail img q ⊎ Empty img q → openStrictly img real settings ≡ Queue q
+    back o (inr z) =
+        asked-strict img real settings q (record { plain = o; sound = z .sound; trail = no-trail q img (z .none) })
+    back o (inl w) =
+        asked-strict img real settings q
+        (record {
+          plain = o;
+          sound = w .linked .sound;
+          trail =
+              trail-of q img (λ z. omega (arith, w .linked .some))
+              ∙ ap (λ (b : ℕ). trailFrom img (q .«file_len») (q .last .pos) (q .«elem_cnt») (q .first .pos) (q .format .«next_seq» - q .«elem_cnt») b 0)
+              (sym (w .starts))
+              ∙ w .linked .trail;
+        })

@@ -6,3 +6,4 @@ pub mod Changes
 pub mod Reopening
 pub mod StrictOpening
 pub mod Reading
+pub mod Samples
