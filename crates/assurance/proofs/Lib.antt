@@ -2,6 +2,7 @@ pub mod Chain
 pub mod Laid
 pub mod TrailWalk
 pub mod Bridge
+pub mod OldRingWalk
 pub mod Recovery
 pub mod TailSequence
 pub mod RecoverySamples

@@ -5,12 +5,13 @@ use mathlib.Core.Bool.{Bool, true, not, cond, _&&_}
 use mathlib.Core.List.{List, [], _∷_}
 use lib.ListN.{length}
 use lib.Dec.{ltb, eqb}
+use Rattle.refusal.specs.declared.Verdict.the-variants as Verdict
 use Rattle.queue.specs.Element.{capacity}
 use Rattle.queue.specs.State.{sound}
 use Rattle.queue.specs.Recover.{recoverHead}
 use Rattle.queue.specs.declared.state.QueueFile.{QueueFile}
 use Rattle.queue.specs.declared.recover.Recovered.the-variants.{Head}
-use Rattle.writing.specs.Growth.{endOfLast, wrapped}
+use Rattle.writing.specs.Growth.{endOfLast, wrapped, walkOldRing}
 use Rattle.writing.specs.Expansion.{expandOf}
 use Rattle.writing.specs.declared.answer.Changed.the-variants.{Queue}
 use Rattle.assurance.specs.Held.{Held, elementsOf, placesBack, sequencesOf, payloadsOf}
@@ -56,6 +57,15 @@ pub record Grown (img : List ℕ) (q : QueueFile) (img′ : List ℕ) (q′ : Qu
 abbrev pub GrowthKeepsQueue : Type 0
 GrowthKeepsQueue =
     (img img′ : List ℕ) (q q′ : QueueFile) (span : ℕ) → Linked img q → expandOf q span img ≡ (Queue q′, img′) → Grown img q img′ q′
+
+-- to say it by itself: what was linked is linked once grown
+abbrev pub GrowthStaysLinked : Type 0
+GrowthStaysLinked =
+    (img img′ : List ℕ) (q q′ : QueueFile) (span : ℕ) → Linked img q → expandOf q span img ≡ (Queue q′, img′) → Linked img′ q′
+
+-- and the walk in the old ring refuses no linked queue: its growth fails by its numbers alone
+abbrev pub LinkedPassesWalk : Type 0
+LinkedPassesWalk = (img : List ℕ) (q : QueueFile) → Linked img q → walkOldRing q img ≡ Verdict.Granted
 
 -- that it is linked before is needed: a sound state with elements is not enough
 abbrev pub LinkedIsNeeded : Type 0
