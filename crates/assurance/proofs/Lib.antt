@@ -10,3 +10,13 @@ pub mod LaidRecovery
 pub mod StrictOpening
 pub mod Reading
 pub mod OpeningSamples
+pub mod Answered
+pub mod Fronts
+pub mod LaidOpens
+pub mod Slots
+pub mod Keeping
+pub mod Reopening
+pub mod FreshSample
+pub mod ProvedTable
+pub mod OneAnswer
+pub mod Refusals

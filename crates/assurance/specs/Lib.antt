@@ -6,4 +6,7 @@ pub mod Changes
 pub mod Reopening
 pub mod StrictOpening
 pub mod Reading
+pub mod ProvedTable
+pub mod OneAnswer
+pub mod Refusals
 pub mod Samples
