@@ -2,24 +2,19 @@
 -- that is unrolled. Assumes nothing.
 use mathlib.Core.Path.{_≡_, refl, sym, ap, _∙_}
 use mathlib.Core.List.{List, [], _∷_}
-use Prim.Native.Nat.{ℕ, zero, suc, _+_, _-_, _%_, _<_}
+use Prim.Native.Nat.{ℕ, suc, _+_, _-_, _%_, _<_}
 use native.Mathlib.Nat.{mod-eq-of-lt, mod-mod, mod-add-mod}
 use native.Mathlib.Omega.{arith}
 use lib.ListN.{length}
-use Rattle.refusal.specs.declared.Verdict.the-variants as Verdict
-use Rattle.ring.specs.Ring.{ringRead}
-use Rattle.ring.proofs.Places.{add-same}
-use Rattle.ring.proofs.Reading.{read-same}
 use Rattle.format.specs.declared.element.V2ElementHeader.{V2ElementHeader}
 use Rattle.format.specs.declared.element.ParsedHeader.{ParsedHeader}
-use Rattle.format.specs.declared.element.ParsedHeader.the-variants as Parsed
-use Rattle.queue.specs.Element.{capacity, headerAt, payloadAt}
+use Rattle.queue.specs.Element.{capacity, payloadAt}
 use Rattle.queue.specs.Strict.{trailFrom}
 use Rattle.queue.specs.declared.state.QueueFile.{QueueFile}
 use Rattle.queue.proofs.Sound.{sound-lengths, sound-numbers, sound-ends}
-use Rattle.assurance.specs.Held.{Held, heldHere, heldStep, heldFrom, elementsOf}
+use Rattle.assurance.specs.Held.{Held, heldStep, heldFrom, elementsOf}
 use Rattle.assurance.specs.Linked.{Linked}
-use Rattle.assurance.proofs.Chain.{Elem, headerOf, span, total, Chain, lastOf, lastFrom, headerIn, header-in, header-mod, header-known, last-holds}
+use Rattle.assurance.proofs.Chain.{Elem, headerOf, span, Chain, lastOf, lastFrom, headerIn, header-in, header-mod, header-known, last-holds}
 use Rattle.assurance.proofs.Laid.{Laid, laid-sound}
 use Rattle.assurance.proofs.TrailWalk.{holds-same, same-header, Found, trail-found, chain-trail}
 

@@ -3,9 +3,9 @@
 -- the chain is there (`chain-frame`); every store outside the live bytes is a case of it. Assumes nothing.
 use mathlib.Core.Path.{_≡_, refl, sym, ap, _∙_}
 use mathlib.Core.List.{List, [], _∷_}
-use Prim.Native.Nat.{ℕ, suc, _+_, _-_, _%_, _≤_, _<_, _^_}
+use Prim.Native.Nat.{ℕ, suc, _+_, _-_, _%_, _≤_, _<_}
 use native.Mathlib.Omega.{arith}
-use lib.ListN.{length, take}
+use lib.ListN.{length}
 use borrow.Author.Tests.{leb-true, le-leb}
 use Rattle.refusal.specs.declared.Verdict.the-variants as Verdict
 use Rattle.refusal.proofs.Laws.{met, granted}
@@ -16,7 +16,7 @@ use Rattle.ring.proofs.Writing.{read-apart, read-ahead}
 use Rattle.format.specs.Element.{elementSpan, parseHeader, checkFooter}
 use Rattle.format.specs.declared.element.V2ElementHeader.{V2ElementHeader}
 use Rattle.format.specs.declared.element.ParsedHeader.{ParsedHeader}
-use Rattle.format.specs.declared.element.ParsedHeader.the-variants.{Header, Refused}
+use Rattle.format.specs.declared.element.ParsedHeader.the-variants.{Header}
 use Rattle.format.proofs.ElementLaws.{no-header, parsed, Parsed}
 use Rattle.queue.specs.Element.{capacity, headerAt}
 

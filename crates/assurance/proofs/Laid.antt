@@ -1,20 +1,19 @@
 -- A linked queue, unrolled: its elements as a list that stands in the image, with what the state says of them. Its soundness, its used
 -- bytes and the end of its last element are sums over that list. Assumes nothing.
-use mathlib.Core.Path.{_≡_, refl, sym, ap, _∙_}
-use mathlib.Core.Bool.{Bool, true, not, cond, _&&_, and-eq-true-iff}
-use mathlib.Core.List.{List, [], _∷_}
-use Prim.Native.Nat.{ℕ, suc, _+_, _-_, _%_, _^_, _≤_, _<_}
-use native.Mathlib.Nat.{mod-eq-of-lt, mod-lt, mod-mod, mod-add-mod, add-mod-right}
+use mathlib.Core.Path.{_≡_, ap, _∙_}
+use mathlib.Core.Bool.{true}
+use mathlib.Core.List.{List, _∷_}
+use Prim.Native.Nat.{ℕ, suc, _+_, _-_, _%_, _≤_, _<_}
+use native.Mathlib.Nat.{mod-eq-of-lt, mod-add-mod, add-mod-right}
 use native.Mathlib.Decide.{decLt}
 use native.Mathlib.Omega.{arith}
 use lib.ListN.{length}
-use lib.Dec.{ltb, leb, eqb}
 use borrow.Author.Tests.{lt-ltb, le-leb, ne-eqb}
 use Rattle.ring.specs.Ring.{ringDistance}
 use Rattle.ring.proofs.Places.{turn-high}
 use Rattle.format.specs.Element.{elementSpan}
 use Rattle.queue.specs.Element.{capacity}
-use Rattle.queue.specs.State.{endsUsed, soundLengths, soundNumbers, noEnds, soundEnds, sound}
+use Rattle.queue.specs.State.{endsUsed, soundLengths, soundNumbers, soundEnds, sound}
 use Rattle.queue.specs.declared.state.QueueFile.{QueueFile}
 use Rattle.queue.proofs.Sound.{Lengths, Numbers}
 use Rattle.writing.specs.Growth.{endOfLast}

@@ -3,7 +3,7 @@
 use mathlib.Core.Path.{_≡_, refl, sym, ap, _∙_, subst}
 use mathlib.Core.Bool.{Bool, cond}
 use mathlib.Core.List.{List, [], _∷_, _++_}
-use Prim.Native.Nat.{ℕ, zero, suc, _+_, _-_, _%_, _<_, _≤_}
+use Prim.Native.Nat.{ℕ, suc, _+_, _-_, _%_, _<_, _≤_}
 use native.Mathlib.Nat.{mod-eq-of-lt}
 use native.Mathlib.Decide.{decLt}
 use native.Mathlib.Omega.{arith}
@@ -13,12 +13,12 @@ use lib.Dec.{ltb}
 use borrow.Author.Tests.{lt-ltb, le-ltb}
 use Rattle.format.specs.declared.element.V2ElementHeader.{V2ElementHeader}
 use Rattle.format.specs.declared.element.ParsedHeader.the-variants as Parsed
-use Rattle.queue.specs.Element.{capacity, elementHere, headerAt}
+use Rattle.queue.specs.Element.{capacity, headerAt}
 use Rattle.queue.specs.Recover.{recoverHead}
 use Rattle.queue.specs.declared.state.QueueFile.{QueueFile}
 use Rattle.queue.specs.declared.recover.Recovered.the-variants.{Head}
-use Rattle.assurance.specs.Held.{Held, elementsOf, placesBack}
-use Rattle.assurance.specs.Recovery.{Trail, Recovery}
+use Rattle.assurance.specs.Held.{elementsOf, placesBack}
+use Rattle.assurance.specs.Recovery.{Trail}
 use Rattle.assurance.proofs.Chain.{Elem, headerOf, span, Holds, Chain, Rising, Backs, lastOf, lastFrom, header-in, header-mod, rising-last}
 use Rattle.assurance.proofs.Laid.{Laid}
 use Rattle.assurance.proofs.Recovery.{recovery-is-exact}

@@ -8,9 +8,7 @@ use lib.ListN.{length}
 use borrow.Author.Tests.{eq-eqb, le-leb}
 use Rattle.refusal.specs.declared.Verdict.the-variants as Verdict
 use Rattle.refusal.proofs.Laws.{pass}
-use Rattle.format.specs.declared.element.ParsedHeader.{ParsedHeader}
 use Rattle.queue.specs.Element.{capacity}
-use Rattle.queue.specs.declared.state.QueueFile.{QueueFile}
 use Rattle.writing.specs.Growth.{walkFrom, walkOldRing}
 use Rattle.assurance.specs.Growth.{LinkedPassesWalk}
 use Rattle.assurance.proofs.Chain.{Elem, span, total, Holds, Chain, lastFrom, header-in, header-mod}

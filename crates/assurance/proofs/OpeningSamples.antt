@@ -1,9 +1,8 @@
 -- Opening on small files, by computation: a whole trail opens strictly, is linked and holds its two elements; with an element of another
 -- run at first the file opens plainly, and is refused strictly. Assumes nothing.
 use mathlib.Core.Path.{_≡_, refl}
-use mathlib.Core.Logic.{_⊎_, inl}
-use mathlib.Core.List.{List, [], _∷_}
-use Prim.Native.Nat.{ℕ}
+use mathlib.Core.Logic.{inl}
+use mathlib.Core.List.{[], _∷_}
 use native.Mathlib.Omega.{arith}
 use Rattle.refusal.specs.Table.{sequenceMismatch}
 use Rattle.refusal.specs.Demand.{demand}
@@ -16,7 +15,6 @@ use Rattle.queue.specs.Strict.{strictElement, trailFrom, checkTrail, openStrict
 use Rattle.queue.specs.declared.opening.Opened.the-variants.{Queue, Refused}
 use Rattle.assurance.specs.Held.{heldFrom, elementsOf}
 use Rattle.assurance.specs.Linked.{Linked}
-use Rattle.assurance.specs.StrictOpening.{WholeTrail}
 use Rattle.assurance.specs.Samples.{settings, trailFile, mixedFile, twoFrom}
 use Rattle.assurance.proofs.StrictOpening.{strict-opening-is-exact}
 

@@ -1,12 +1,11 @@
 -- Peek and iteration read the elements where they stand. Assumes nothing.
 use mathlib.Core.Path.{_≡_, refl, sym, ap, _∙_}
-use mathlib.Core.Bool.{Bool, cond}
+use mathlib.Core.Bool.{Bool}
 use mathlib.Core.List.{List, [], _∷_}
 use Prim.Native.Nat.{ℕ, zero, suc, _+_, _-_, _%_, _≤_, _<_}
 use native.Mathlib.Nat.{mod-eq-of-lt, mod-lt, mod-mod, mod-add-mod}
 use native.Mathlib.Omega.{arith}
 use lib.ListN.{length}
-use lib.Dec.{eqb, leb, ltb}
 use borrow.Author.Tests.{le-leb, lt-leb, lt-ltb, ne-eqb}
 use Rattle.refusal.specs.declared.Verdict as Verdicts
 use Rattle.refusal.specs.declared.Verdict.the-variants as Verdict
@@ -17,21 +16,19 @@ use Rattle.queue.specs.Answers.{onHeader, onVerdict}
 use Rattle.queue.specs.Element.{capacity, elementHere, headerAt, payloadAt, footerVerdict}
 use Rattle.queue.specs.State.{sound}
 use Rattle.queue.specs.Peek.{fitPeek, checkPeek, judgePeek}
-use Rattle.queue.specs.Iter.{cursorAt, startOf, stepHere, stepOn, judgeStep}
+use Rattle.queue.specs.Iter.{cursorAt, stepHere, stepOn, judgeStep}
 use Rattle.queue.specs.declared.element.Element.{Element}
 use Rattle.queue.specs.declared.state.QueueFile.{QueueFile}
-use Rattle.queue.specs.declared.peek.Peeked as Peek
 use Rattle.queue.specs.declared.peek.Peeked.the-variants as Peeked
-use Rattle.queue.specs.declared.iter.Cursor.{Cursor}
 use Rattle.queue.specs.declared.iter.Stepped as Answer
 use Rattle.queue.specs.declared.iter.Stepped.the-variants as Stepped
 use Rattle.writing.proofs.Choices.{chosen, left-out}
-use Rattle.assurance.specs.Held.{Held, elementsOf, sequencesOf}
+use Rattle.assurance.specs.Held.{sequencesOf}
 use Rattle.assurance.specs.Reading.{upFrom, LinkedIsOneRun, firstPayload, PeekGivesFirst, handedStep, handed, IterationGivesAll}
 use Rattle.assurance.proofs.Chain.{Elem, headerOf, span, total, Holds, Chain, Rising, header-in}
 use Rattle.assurance.proofs.Laid.{Laid, laid-sound, laid-some}
 use Rattle.assurance.proofs.TrailWalk.{holds-same}
-use Rattle.assurance.proofs.Bridge.{Unrolled, linked-laid, heldAt, heldAll, laid-elements}
+use Rattle.assurance.proofs.Bridge.{linked-laid, heldAll, laid-elements}
 
 -- ---- one run
 
@@ -81,8 +78,7 @@ module _ (img : List ℕ) (q : QueueFile) (e : Elem) (es : List Elem) (k : Laid 
 pub peek-gives-first : PeekGivesFirst
 peek-gives-first img q room w l =
     let u = linked-laid img q w in
-    let k = u .laid in
-    (
+    let k = u .laid in (
       peeked img q (u .e) (u .es) k room l,
       ap (payloadAt img (q .«file_len»)) (first-known img q (u .e) (u .es) k)
           ∙ payload-stands img (q .«file_len») (q .first .pos) (u .e) (k .holds .0)
@@ -125,8 +121,11 @@ module _ (img : List ℕ) (q : QueueFile) (room : ℕ) (ok : sound q (length img
   all (e ∷ es) index p (suc steps) c l i s =
       let w = holds-same img size p (p % size) e (sym (mod-mod p size)) (c .0) in
       ap (λ (a : Answer.Stepped). handedStep img (q .«file_len») a (handed q img room steps)) (one index p e (c .0) (omega arith) (omega arith))
-      ∙ rw (payload-stands img (q .«file_len») (p % size) e w, mod-add-mod p size (span e),
-      all es (index + 1) (p + span e) steps (c .1) (omega arith) (omega arith) (omega arith))
+      ∙ rw (
+        payload-stands img (q .«file_len») (p % size) e w,
+        mod-add-mod p size (span e),
+        all es (index + 1) (p + span e) steps (c .1) (omega arith) (omega arith) (omega arith),
+      )
 
 pub iteration-gives-all : IterationGivesAll
 iteration-gives-all img q room steps w wide enough =

@@ -2,21 +2,18 @@
 -- has its ends where their headers stand; the walk does the rest. Assumes nothing.
 use mathlib.Core.Path.{_≡_, refl, sym, ap, _∙_, subst}
 use mathlib.Core.Logic.{_⊎_, inl, inr}
-use mathlib.Core.Bool.{Bool, true, false, cond}
+use mathlib.Core.Bool.{Bool, true, cond}
 use mathlib.Core.List.{List}
-use Prim.Native.Nat.{ℕ, zero, suc, _-_, _%_, _≤_}
+use Prim.Native.Nat.{ℕ, zero, suc, _-_, _≤_}
 use native.Mathlib.Nat.{mod-eq-of-lt}
 use native.Mathlib.Omega.{arith}
 use lib.ListN.{length, getD}
-use lib.Dec.{eqb}
 use borrow.Author.Tests.{eq-eqb, ne-eqb}
-use Rattle.refusal.specs.Demand.{demand}
 use Rattle.refusal.specs.declared.Refusal.{Refusal}
 use Rattle.refusal.specs.declared.Verdict as Answer
 use Rattle.refusal.specs.declared.Verdict.the-variants as Verdict
 use Rattle.refusal.proofs.Laws.{pass, granted, keep}
 use Rattle.header.specs.declared.SlotData.{SlotData}
-use Rattle.ring.specs.Ring.{hasRing}
 use Rattle.ring.specs.declared.place.Placed.{Placed}
 use Rattle.ring.specs.declared.place.Placed.the-variants as Placed
 use Rattle.ring.proofs.Places.{there-ring}
@@ -25,13 +22,12 @@ use Rattle.format.specs.declared.slots.Elected.the-variants as Elected
 use Rattle.format.specs.declared.element.V2ElementHeader.{V2ElementHeader}
 use Rattle.format.specs.declared.element.ParsedHeader.{ParsedHeader}
 use Rattle.format.specs.declared.element.ParsedHeader.the-variants as Parsed
-use Rattle.format.proofs.ElementLaws.{no-header}
 use Rattle.queue.specs.Answers.{onHeader, onPlace, onVerdict}
 use Rattle.queue.specs.Places.{toLogical}
-use Rattle.queue.specs.Element.{capacity, elementHere, headerAt, inSequence, headerInSequence}
+use Rattle.queue.specs.Element.{capacity, elementHere, headerAt, inSequence}
 use Rattle.queue.specs.State.{sound}
-use Rattle.queue.specs.Recover.{recoverFrom, recoverHead}
-use Rattle.queue.specs.Opening.{builtQueue, withEnds, fromHead, orRecovered, firstElement, openEnds, openedFrom, fromState, openState, openQueue}
+use Rattle.queue.specs.Recover.{recoverHead}
+use Rattle.queue.specs.Opening.{builtQueue, withEnds, fromHead, orRecovered, firstElement, openEnds, fromState, openState, openQueue}
 use Rattle.queue.specs.Strict.{trailFrom, firstLink, checkTrail, strictly, openStrictly}
 use Rattle.queue.specs.declared.element.Element.{Element}
 use Rattle.queue.specs.declared.state.Settings.{Settings}
@@ -42,7 +38,7 @@ use Rattle.queue.specs.declared.opening.Opened.{Opened}
 use Rattle.queue.specs.declared.opening.Opened.the-variants.{Queue, Refused}
 use Rattle.queue.proofs.AnswerLaws.{on-granted}
 use Rattle.queue.proofs.Sound.{sound-ends}
-use Rattle.assurance.specs.Linked.{Stands, Linked, Empty}
+use Rattle.assurance.specs.Linked.{Stands, Empty}
 use Rattle.assurance.specs.StrictOpening.{WholeTrail, StrictOpeningIsExact}
 use Rattle.assurance.proofs.Chain.{headerOf, header-in}
 use Rattle.assurance.proofs.Recovery.{recovery-is-exact}

@@ -26,7 +26,7 @@ use Rattle.queue.specs.Answers.{onHeader, onVerdict}
 use Rattle.queue.specs.Element.{capacity, elementHere, headerAt, inSequence, payloadAt, footerVerdict}
 use Rattle.queue.specs.Strict.{linkedElement, strictElement, trailFrom}
 use Rattle.queue.proofs.AnswerLaws.{on-granted}
-use Rattle.assurance.proofs.Chain.{Elem, headerOf, span, total, Holds, Chain, Rising, Backs, lastOf, lastFrom, headerIn, header-in, header-mod}
+use Rattle.assurance.proofs.Chain.{Elem, headerOf, span, total, Holds, Chain, Rising, Backs, lastFrom, headerIn, header-in, header-mod}
 
 -- ---- a place is as good as any other that is the same in the ring
 
