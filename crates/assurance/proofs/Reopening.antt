@@ -1,5 +1,5 @@
--- Opening gives back the state that was committed, after each call. Where a theorem needs that its call leaves a queue that is linked or
--- empty, it takes that theorem as an argument. Assumes nothing.
+-- Opening gives back the state that was committed, after each call: the slot is stored last, or what is stored behind it lies behind the
+-- slots. Assumes nothing.
 use mathlib.Core.Path.{_≡_, refl, sym, ap, subst, _∙_}
 use mathlib.Core.Logic.{inl, inr}
 use mathlib.Core.Bool.{true}
@@ -31,13 +31,14 @@ use Rattle.writing.proofs.Choices.{left-out}
 use Rattle.writing.proofs.CommitLaws.{commit-sound}
 use Rattle.writing.proofs.PlanLaws.{checked-planned, expansion-sound, add-sound}
 use Rattle.assurance.specs.Linked.{LinkedOrEmpty}
-use Rattle.assurance.specs.Changes.{AddKeepsQueue, RemoveKeepsQueue, ClearEmpties, CommitKeepsQueue, FreshIsEmpty}
 use Rattle.assurance.specs.Reopening.{Stored, Current, StoredReopens, Committed, FreshIsCommitted, CommitIsCommitted, AddIsCommitted, RemoveIsCommitted, ClearIsCommitted, ClearStaysCurrent, GrowthStaysCurrent}
 use Rattle.assurance.proofs.Bridge.{linked-laid}
 use Rattle.assurance.proofs.LaidOpens.{laid-opens, empty-opens}
 use Rattle.assurance.proofs.Fronts.{Fronts, front-all, upto-kept, state-kept}
 use Rattle.assurance.proofs.Slots.{length-stored, stored-current, zero-none, stored-elected, committed-stored}
 use Rattle.assurance.proofs.Answered.{not-kept, done-work, verdict-work, count-work, skip-work}
+use Rattle.assurance.proofs.Changes.{commit-keeps-queue, remove-keeps-queue, clear-empties, fresh-is-empty}
+use Rattle.assurance.proofs.Adding.{add-keeps-queue}
 use Rattle.assurance.proofs.Keeping.{UpToDate, Behind, Long, grown-current, appended-current, removed-behind, zeroed-behind, cut-format, not-cut}
 
 -- ---- what is stored is given back
@@ -86,12 +87,11 @@ after-commit w v b whole c =
 at-once : (w : Work) → Behind w w
 at-once w = (refl, front-all (w .1))
 
-module _ (commits : CommitKeepsQueue) where
-  pub commit-committed : CommitIsCommitted
-  unfolding commitOf
-  commit-committed img img′ q q′ l c e =
-      let d = verdict-work img q′ img′ (judgeCommit q (length img)) (committed (q, img)) e .1 in
-      after-commit (q, img) (q′, img′) (subst (Behind (committed (q, img))) d (at-once _)) (commits img img′ q q′ l e .whole) c
+pub commit-committed : CommitIsCommitted
+unfolding commitOf
+commit-committed img img′ q q′ l c e =
+    let d = verdict-work img q′ img′ (judgeCommit q (length img)) (committed (q, img)) e .1 in
+    after-commit (q, img) (q′, img′) (subst (Behind (committed (q, img))) d (at-once _)) (commit-keeps-queue img img′ q q′ l e .whole) c
 
 -- ---- growth
 
@@ -105,17 +105,16 @@ growth-current img img′ q q′ span c e =
 
 -- ---- add
 
-module _ (adds : AddKeepsQueue) where
-  pub add-committed : AddIsCommitted
-  unfolding addOf
-  add-committed img img′ payload q q′ l c e =
-      let j = judgeAdd q (length img) (length payload) in
-      let step : ℕ → Work = λ n. appended payload (grown n (q, img)) in
-      let d = count-work img q′ img′ (checkGrowth q img j) (λ n. committed (step n)) e in
-      let s = add-sound q (length img) (length payload) (d .bytes) (checked-planned q img j (d .bytes) (d .count)) in
-      after-commit (step (d .bytes)) (q′, img′) (subst (Behind (committed (step (d .bytes)))) (d .work) (at-once _))
-      (inl (adds img img′ payload q q′ l e .0))
-      (appended-current payload (grown (d .bytes) (q, img)) (grown-current (d .bytes) (q, img) (sound-long q (length img) s) c))
+pub add-committed : AddIsCommitted
+unfolding addOf
+add-committed img img′ payload q q′ l c e =
+    let j = judgeAdd q (length img) (length payload) in
+    let step : ℕ → Work = λ n. appended payload (grown n (q, img)) in
+    let d = count-work img q′ img′ (checkGrowth q img j) (λ n. committed (step n)) e in
+    let s = add-sound q (length img) (length payload) (d .bytes) (checked-planned q img j (d .bytes) (d .count)) in
+    after-commit (step (d .bytes)) (q′, img′) (subst (Behind (committed (step (d .bytes)))) (d .work) (at-once _))
+    (inl (add-keeps-queue img img′ payload q q′ l e .0))
+    (appended-current payload (grown (d .bytes) (q, img)) (grown-current (d .bytes) (q, img) (sound-long q (length img) s) c))
 
 -- ---- remove
 
@@ -138,14 +137,13 @@ removed-some q n img a h l k e =
     ∙ left-out (eqb n 0) _ _ (ne-eqb n 0 (λ z. omega (arith, h, z)))
     ∙ g
 
-module _ (removes : RemoveKeepsQueue) where
-  pub remove-committed : RemoveIsCommitted
-  unfolding removeSome
-  remove-committed img img′ q q′ n l c h k e =
-      let some = removed-some q n img (Queue q′, img′) h k (not-kept img q′ img′) e in
-      let d = skip-work img q′ img′ (skipFrom img (q .«file_len») n (q .first)) (removeTo q n img) some in
-      after-commit (dropped q n (d .element), img) (q′, img′) (removed-to q n img (d .element) q′ img′ (d .answer))
-      (removes img img′ q q′ n l e .whole) c
+pub remove-committed : RemoveIsCommitted
+unfolding removeSome
+remove-committed img img′ q q′ n l c h k e =
+    let some = removed-some q n img (Queue q′, img′) h k (not-kept img q′ img′) e in
+    let d = skip-work img q′ img′ (skipFrom img (q .«file_len») n (q .first)) (removeTo q n img) some in
+    after-commit (dropped q n (d .element), img) (q′, img′) (removed-to q n img (d .element) q′ img′ (d .answer))
+    (remove-keeps-queue img img′ q q′ n l e .whole) c
 
 -- ---- clear
 
@@ -162,34 +160,32 @@ clear-current img img′ q q′ e =
     (upto-kept (w .1) (ringZeroed w .1) (w .0 .format .«active_slot») (w .0 .format .generation) (b .1)
     (stored-current (w .0) img (l .image))))
 
-module _ (clears : ClearEmpties) where
-  pub clear-committed : ClearIsCommitted
-  unfolding clearOf cleared committed
-  clear-committed img img′ q q′ c h e =
-      let w = committed (emptied q, img) in
-      let d = verdict-work img q′ img′ (judgeCommit q (length img)) (cut (ringZeroed w)) e in
-      let b = zeroed-behind w in
-      after-commit (emptied q, img) (q′, img′)
-      (subst (Behind w) (d .1) (ap cutState (b .0) ∙ not-cut (nextState (emptied q)) h, b .1))
-      (clears img img′ q q′ e .1 .whole) c
+pub clear-committed : ClearIsCommitted
+unfolding clearOf cleared committed
+clear-committed img img′ q q′ c h e =
+    let w = committed (emptied q, img) in
+    let d = verdict-work img q′ img′ (judgeCommit q (length img)) (cut (ringZeroed w)) e in
+    let b = zeroed-behind w in
+    after-commit (emptied q, img) (q′, img′)
+    (subst (Behind w) (d .1) (ap cutState (b .0) ∙ not-cut (nextState (emptied q)) h, b .1))
+    (clear-empties img img′ q q′ e .1 .whole) c
 
 -- ---- a fresh image
 
-module _ (fresh : FreshIsEmpty) where
-  pub fresh-committed : FreshIsCommitted
-  unfolding freshOf
-  fresh-committed img img′ n settings q′ e =
-      let a = granted _ _ _ (Queue q′, img′) (not-kept img q′ img′ _) e in
-      let b = granted _ _ _ (Queue q′, img′) (not-kept img q′ img′ _) (a .1) in
-      let g = granted _ _ _ (Queue q′, img′) (not-kept img q′ img′ _) (b .1) in
-      let low : 8192 ≤ n = leb-true _ _ (a .0) in
-      let room : n ≤ length img = leb-true _ _ (g .0) in
-      let zeros : List ℕ = putAt img 0 (replicate n 0) in
-      let d = done-work img q′ img′ (freshQueue n settings, slotStored (freshQueue n settings) zeros) (g .1) in
-      let first : getD zeros 4096 0 ≡ 0 =
-      putAt-within img 0 (replicate n 0) 4096 (omega (arith, low, length-replicate {A = ℕ} n 0)) (omega (arith, low, room))
-      ∙ getD-replicate n 4096 0 0 (omega (arith, low)) in
-      let whole = subst (λ (w : Work). LinkedOrEmpty (w .1) (w .0)) (sym d) (inr (fresh img img′ n settings q′ e .0)) in
-      subst (λ (w : Work). Committed (w .1) (w .0)) d
-      (then-committed (freshQueue n settings) zeros _ (front-all _) whole
-      (λ s. stored-elected (freshQueue n settings) zeros s (zero-none zeros 1 first)))
+pub fresh-committed : FreshIsCommitted
+unfolding freshOf
+fresh-committed img img′ n settings q′ e =
+    let a = granted _ _ _ (Queue q′, img′) (not-kept img q′ img′ _) e in
+    let b = granted _ _ _ (Queue q′, img′) (not-kept img q′ img′ _) (a .1) in
+    let g = granted _ _ _ (Queue q′, img′) (not-kept img q′ img′ _) (b .1) in
+    let low : 8192 ≤ n = leb-true _ _ (a .0) in
+    let room : n ≤ length img = leb-true _ _ (g .0) in
+    let zeros : List ℕ = putAt img 0 (replicate n 0) in
+    let d = done-work img q′ img′ (freshQueue n settings, slotStored (freshQueue n settings) zeros) (g .1) in
+    let first : getD zeros 4096 0 ≡ 0 =
+    putAt-within img 0 (replicate n 0) 4096 (omega (arith, low, length-replicate {A = ℕ} n 0)) (omega (arith, low, room))
+    ∙ getD-replicate n 4096 0 0 (omega (arith, low)) in
+    let whole = subst (λ (w : Work). LinkedOrEmpty (w .1) (w .0)) (sym d) (inr (fresh-is-empty img img′ n settings q′ e .0)) in
+    subst (λ (w : Work). Committed (w .1) (w .0)) d
+    (then-committed (freshQueue n settings) zeros _ (front-all _) whole
+    (λ s. stored-elected (freshQueue n settings) zeros s (zero-none zeros 1 first)))

@@ -10,3 +10,4 @@ pub mod ProvedTable
 pub mod OneAnswer
 pub mod Refusals
 pub mod Samples
+pub mod ChangeSamples
