@@ -43,6 +43,10 @@ trailFile = slot ++ bare 1 0 ++ bare 2 8192
 abbrev pub mixedFile : List ℕ
 mixedFile = slot ++ bare 7 0 ++ bare 2 8192
 
+-- the element before first was removed, and first still names it
+abbrev pub laterFile : List ℕ
+laterFile = slot ++ bare 1 8236 ++ bare 2 8192
+
 -- the state with an element of that sequence at first
 abbrev pub twoFrom : ℕ → QueueFile
 twoFrom seq =
