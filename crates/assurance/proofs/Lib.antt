@@ -17,6 +17,8 @@ pub mod Relinking
 pub mod GrownLaid
 pub mod GrownHeld
 pub mod Growth
+pub mod GrowthSamples
+pub mod LinkedNeeded
 pub mod Vacant
 pub mod Clearing
 pub mod ChainLists

@@ -11,3 +11,4 @@ pub mod OneAnswer
 pub mod Refusals
 pub mod Samples
 pub mod ChangeSamples
+pub mod GrowthSamples
