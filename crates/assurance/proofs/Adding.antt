@@ -1,31 +1,25 @@
 -- Add appends: the file grows as far as was planned, which is far enough; the element is appended; the state is committed.
 -- Assumes nothing.
-use mathlib.Core.Path.{_≡_, refl, sym, ap, _∙_, subst}
+use mathlib.Core.Path.{_≡_, sym, ap, _∙_, subst}
 use mathlib.Core.Logic.{inl, inr}
 use mathlib.Core.Bool.{Bool, true, false, cond}
 use mathlib.Core.List.{List, [], _∷_, _++_}
-use Prim.Native.Nat.{ℕ, zero, suc, _+_, _-_, _*_, _%_, _^_, _≤_, _<_}
-use native.Mathlib.Nat.{mul-sub, mul-one}
+use Prim.Native.Nat.{ℕ, _+_, _-_, _%_, _^_, _≤_, _<_}
 use native.Mathlib.Omega.{arith}
 use lib.ListN.{length}
 use lib.Dec.{eqb}
-use borrow.Author.Tests.{leb-true, eq-eqb, ne-eqb}
-use Rattle.refusal.proofs.Laws.{granted}
+use borrow.Author.Tests.{eq-eqb, ne-eqb}
 use Rattle.format.specs.Element.{elementSpan}
 use Rattle.queue.specs.Element.{capacity}
 use Rattle.queue.specs.State.{endsUsed, usedBytes, remainingBytes, sound}
 use Rattle.queue.specs.declared.element.Element.{Element}
 use Rattle.queue.specs.declared.state.QueueFile.{QueueFile}
-use Rattle.queue.specs.declared.state.Count.{Count}
-use Rattle.queue.specs.declared.state.Count.the-variants.{Bytes}
-use Rattle.writing.specs.Work.{Work, done, kept}
+use Rattle.writing.specs.Work.{Work}
 use Rattle.writing.specs.Commit.{pointerTo, committed}
-use Rattle.writing.specs.Length.{enough, doubled, leastFrom, growLength}
 use Rattle.writing.specs.Growth.{checkGrowth}
 use Rattle.writing.specs.Expansion.{grown, Expands}
 use Rattle.writing.specs.Adding.{appended, judgeAdd, addOf}
-use Rattle.writing.specs.declared.answer.Changed.the-variants.{Queue}
-use Rattle.writing.proofs.LengthLaws.{no-bytes, same-bytes}
+use Rattle.writing.proofs.LengthLaws.{length-room}
 use Rattle.writing.proofs.PlanLaws.{checked-planned, length-planned, length-expands, Adds, add-planned}
 use Rattle.assurance.specs.Held.{Held, elementsOf}
 use Rattle.assurance.specs.Linked.{Linked, Empty, LinkedOrEmpty}
@@ -34,8 +28,9 @@ use Rattle.assurance.specs.Changes.{Leaves, newest, AddKeepsQueue}
 use Rattle.assurance.proofs.Chain.{Elem, total}
 use Rattle.assurance.proofs.Laid.{Laid, laid-some, used-total}
 use Rattle.assurance.proofs.Bridge.{linked-laid, laid-linked, heldAt, heldAll, laid-elements, empty-elements}
+use Rattle.assurance.proofs.Answered.{count-work}
 use Rattle.assurance.proofs.CommitLaid.{committed-laid}
-use Rattle.assurance.proofs.GrownState.{commitsAt, grown-state, grown-file, grown-count, grown-first, grown-next, grown-generation, planned-file, planned-numbers, counted, no-queue}
+use Rattle.assurance.proofs.GrownState.{commitsAt, grown-state, grown-file, grown-count, grown-first, grown-next, grown-generation, planned-file, planned-numbers}
 use Rattle.assurance.proofs.Relinking.{grownElem, grownElems, grown-total}
 use Rattle.assurance.proofs.GrownLaid.{grown-laid}
 use Rattle.assurance.proofs.GrownHeld.{grown-held}
@@ -43,31 +38,7 @@ use Rattle.assurance.proofs.ChainLists.{last-snoc}
 use Rattle.assurance.proofs.AppendLaid.{LaidWork, newElem, appended-laid, started-laid}
 use Rattle.assurance.proofs.Vacant.{empty-vacant}
 use Rattle.assurance.proofs.Clearing.{grown-vacant}
-use Rattle.assurance.proofs.Leaving.{done-same, laid-leaves, held-append}
-
--- ---- a planned length has room
-
-enough-room : (len rest want k n : ℕ) → enough len rest want k ≡ true → doubled len k ≡ Bytes n → want ≤ rest + (n - len)
-enough-room len rest want k n e d =
-    let s : len * 2 ^ k ≡ n = same-bytes (len * 2 ^ k) n (granted _ _ _ _ no-bytes d .1) in
-    let m : len * (2 ^ k - 1) ≡ n - len = mul-sub len (2 ^ k) 1 ∙ rw (s, mul-one len) in
-    omega (arith, m, leb-true want (rest + len * (2 ^ k - 1)) e)
-
-room-step : (b : Bool) (len rest want k n : ℕ) (next : Count) → enough len rest want k ≡ b → (next ≡ Bytes n → want ≤ rest + (n - len))
-    → cond b (doubled len k) next ≡ Bytes n → want ≤ rest + (n - len)
-room-step true len rest want k n next e f d = enough-room len rest want k n e d
-room-step false len rest want k n next e f d = f d
-
-room-from : (left len rest want k n : ℕ) → leastFrom left len rest want k ≡ Bytes n → want ≤ rest + (n - len)
-unfolding leastFrom
-room-from zero len rest want k n e = absurd (no-bytes e)
-room-from (suc left) len rest want k n e =
-    room-step (enough len rest want k) len rest want k n (leastFrom left len rest want (k + 1)) refl
-    (room-from left len rest want (k + 1) n) e
-
-length-room : (len rest want n : ℕ) → growLength len rest want ≡ Bytes n → want ≤ rest + (n - len)
-unfolding growLength
-length-room len rest want n e = room-from 63 len rest want 0 n e
+use Rattle.assurance.proofs.Leaving.{laid-leaves, held-append}
 
 used-by : (q : QueueFile) (none : Bool) → eqb (q .«elem_cnt») 0 ≡ none → usedBytes q ≡ cond none 8192 (endsUsed q)
 unfolding usedBytes
@@ -241,9 +212,7 @@ pub add-keeps-queue : AddKeepsQueue
 unfolding addOf
 add-keeps-queue img img′ payload q q′ w h =
     let c = judgeAdd q (length img) (length payload) in
-    let t =
-    counted (kept img) (checkGrowth q img c) (λ n. done (committed (appended payload (grown n (q, img)))))
-    (Queue q′, img′) (no-queue q′ img img′) h in
-    let n = t .n in
-    let a = add-planned q (length img) (length payload) n (checked-planned q img c n (t .bytes)) in
-    subst (Added img payload q n a) (done-same (after img payload q n a) q′ img′ (t .same)) (added img payload q n a w)
+    let t = count-work img q′ img′ (checkGrowth q img c) (λ n. committed (appended payload (grown n (q, img)))) h in
+    let n = t .bytes in
+    let a = add-planned q (length img) (length payload) n (checked-planned q img c n (t .count)) in
+    subst (Added img payload q n a) (t .work) (added img payload q n a w)

@@ -22,6 +22,7 @@ use Rattle.writing.specs.Work.{Work, withFormat, withElements}
 use Rattle.writing.specs.Commit.{pointerTo}
 use Rattle.writing.specs.Growth.{endOfLast}
 use Rattle.writing.specs.Adding.{elementBytes, nextSequence, appended}
+use Rattle.writing.proofs.CommitLaws.{pointer-none, pointer-some}
 use Rattle.assurance.proofs.Chain.{Elem, total, headerIn, Holds, Chain, chain-frame, agree-ahead, rising-last}
 use Rattle.assurance.proofs.ChainLists.{total-append, chain-append, rising-snoc, backs-snoc, last-snoc, lastOf-snoc}
 use Rattle.assurance.proofs.Laid.{Laid, laid-some, end-place}
@@ -127,7 +128,7 @@ module _ (img : List ℕ) (q : QueueFile) (e : Elem) (es : List Elem) (payload :
 
   -- it names last
   names-last : pointerTo (q .«elem_cnt») (q .last) ≡ 8192 + q .last .pos
-  names-last = ap (λ (t : Bool). cond t 0 (8192 + q .last .pos)) (ne-eqb (q .«elem_cnt») 0 (laid-some img q e es k))
+  names-last = pointer-some (q .«elem_cnt») (q .last) (laid-some img q e es k)
 
   abbrev after : Work
   after = (
@@ -202,7 +203,7 @@ module _ (img : List ℕ) (q : QueueFile) (payload : List ℕ) (v : Vacant q (le
 
   -- it names nothing
   names-nothing : pointerTo (q .«elem_cnt») (q .last) ≡ 0
-  names-nothing = ap (λ (t : Bool). cond t 0 (8192 + q .last .pos)) (eq-eqb (q .«elem_cnt») 0 (v .none))
+  names-nothing = pointer-none (q .«elem_cnt») (q .last) (v .none)
 
   alone-laid : LaidWork (appendedTo q img payload true) new []
   alone-laid = record {

@@ -3,20 +3,20 @@
 use mathlib.Core.Path.{_≡_, refl, sym, ap, _∙_}
 use mathlib.Core.List.{List, [], _∷_}
 use Prim.Native.Nat.{ℕ, suc, _+_, _-_, _%_, _<_}
-use native.Mathlib.Nat.{mod-eq-of-lt, mod-mod, mod-add-mod}
+use native.Mathlib.Nat.{mod-eq-of-lt, mod-add-mod}
 use native.Mathlib.Omega.{arith}
 use lib.ListN.{length}
 use Rattle.format.specs.declared.element.V2ElementHeader.{V2ElementHeader}
 use Rattle.format.specs.declared.element.ParsedHeader.{ParsedHeader}
-use Rattle.queue.specs.Element.{capacity, payloadAt}
+use Rattle.queue.specs.Element.{capacity}
 use Rattle.queue.specs.Strict.{trailFrom}
 use Rattle.queue.specs.declared.state.QueueFile.{QueueFile}
 use Rattle.queue.proofs.Sound.{sound-lengths, sound-numbers, sound-ends}
 use Rattle.assurance.specs.Held.{Held, heldStep, heldFrom, elementsOf}
 use Rattle.assurance.specs.Linked.{Linked}
-use Rattle.assurance.proofs.Chain.{Elem, headerOf, span, Chain, lastOf, lastFrom, headerIn, header-in, header-mod, header-known, last-holds}
-use Rattle.assurance.proofs.Laid.{Laid, laid-sound}
-use Rattle.assurance.proofs.TrailWalk.{holds-same, same-header, Found, trail-found, chain-trail}
+use Rattle.assurance.proofs.Chain.{Elem, headerOf, span, Chain, lastOf, lastFrom, header-in, header-known, header-there, last-holds}
+use Rattle.assurance.proofs.Laid.{Laid, header-first, header-last, laid-sound}
+use Rattle.assurance.proofs.TrailWalk.{same-header, payload-there, Found, trail-found, chain-trail}
 
 -- ---- from the words
 
@@ -52,11 +52,7 @@ module _ (img : List ℕ) (q : QueueFile) (w : Linked img q) where
       let t = last-holds (f .es) img size first (f .e) (f .holds) in
       let b =
       same-header _ _
-      (sym (w .last)
-      ∙ header-in img (q .«file_len») (q .last .pos)
-      ∙ ap (headerIn size img) (sym (f .ends))
-      ∙ header-mod size img (lastFrom first (f .e) (f .es))
-      ∙ t .header) in
+      (sym (w .last) ∙ header-there img (q .«file_len») (lastFrom first (f .e) (f .es)) (q .last .pos) (lastOf (f .e) (f .es)) (sym (f .ends)) t) in
       let positive : 0 < f .e .seq = header-known img size first (headerOf (f .e)) (f .holds .0 .header) .positive in
       record {
         lengths = sound-lengths q (length img) (w .sound);
@@ -91,19 +87,13 @@ module _ (img : List ℕ) (q : QueueFile) (e : Elem) (es : List Elem) (k : Laid 
   laid-linked =
       let size : ℕ = capacity (q .«file_len») in
       let first : ℕ = q .first .pos in
-      let t = last-holds es img size first e (k .holds) in
       record {
         sound = laid-sound img q e es k;
         some = omega (arith, k .count);
         first-back = e .back;
-        first = rw (k .first-len, k .first-seq) (header-in img (q .«file_len») first ∙ k .holds .0 .header);
+        first = rw (k .first-len, k .first-seq) (header-first img q e es k);
         last-back = lastOf e es .back;
-        last =
-            rw (k .last-len, k .last-seq)
-            (header-in img (q .«file_len») (q .last .pos)
-            ∙ ap (headerIn size img) (k .last-place)
-            ∙ header-mod size img (lastFrom first e es)
-            ∙ t .header);
+        last = rw (k .last-len, k .last-seq) (header-last img q e es k);
         trail =
             let s : e .seq ≡ q .format .«next_seq» - q .«elem_cnt» = omega (arith, k .seqs, k .count) in
             ap (λ (n : ℕ). trailFrom img (q .«file_len») (q .last .pos) n first (q .format .«next_seq» - q .«elem_cnt») (e .back) 0) (k .count)
@@ -124,13 +114,12 @@ heldAll size p (e ∷ es) = heldAt size p e ∷ heldAll size (p + span e) es
 
 chain-held : (es : List Elem) (img : List ℕ) (file p : ℕ) → Chain img (capacity file) p es
     → heldFrom img file (length es) (p % capacity file) ≡ heldAll (capacity file) p es
-unfolding heldFrom payloadAt
+unfolding heldFrom
 chain-held [] img file p c = refl
 chain-held (e ∷ es) img file p c =
     let size : ℕ = capacity file in
-    let h = holds-same img size p (p % size) e (sym (mod-mod p size)) (c .0) in
-    ap (λ (d : ParsedHeader). heldStep img file (p % size) d (heldFrom img file (length es))) (header-in img file (p % size) ∙ h .header)
-    ∙ rw (h .payload, mod-add-mod p size (span e), chain-held es img file (p + span e) (c .1))
+    ap (λ (d : ParsedHeader). heldStep img file (p % size) d (heldFrom img file (length es))) (header-there img file p (p % size) e refl (c .0))
+    ∙ rw (payload-there img file p (p % size) e refl (c .0), mod-add-mod p size (span e), chain-held es img file (p + span e) (c .1))
 
 pub laid-elements : (img : List ℕ) (q : QueueFile) (e : Elem) (es : List Elem) → Laid img q e es
     → elementsOf q img ≡ heldAll (capacity (q .«file_len»)) (q .first .pos) (e ∷ es)

@@ -78,6 +78,12 @@ pub record Holds (img : List ℕ) (size p : ℕ) (e : Elem) : Type 0 where
   pub payload : ringRead 8192 size img (p + 28) (length (e .payload)) ≡ e .payload
   pub footer : checkFooter (ringRead 8192 size img (p + 28 + length (e .payload)) 16) (e .seq) (e .payload) ≡ Verdict.Granted
 
+-- its header is what is read there, at the reduced place r
+pub header-there : (img : List ℕ) (file p r : ℕ) (e : Elem) → r ≡ p % capacity file → Holds img (capacity file) p e
+    → headerAt img file r ≡ Header (headerOf e)
+header-there img file p r e s h =
+    header-in img file r ∙ ap (headerIn (capacity file) img) s ∙ header-mod (capacity file) img p ∙ h .header
+
 -- the elements stand one behind the other from p on
 abbrev pub Chain : List ℕ → ℕ → ℕ → List Elem → Type 0
 Chain img size p [] = Unit {0}

@@ -15,7 +15,6 @@ use Rattle.refusal.proofs.Laws.{granted, refused}
 use Rattle.wire.specs.Wire.{putAt}
 use Rattle.queue.specs.Element.{capacity}
 use Rattle.queue.specs.declared.state.QueueFile.{QueueFile}
-use Rattle.queue.proofs.AnswerLaws.{on-granted}
 use Rattle.writing.specs.Work.{Work, done, kept}
 use Rattle.writing.specs.Commit.{slotStored, committed, judgeNumbers, judgeCommit, commitOf}
 use Rattle.writing.specs.Removal.{onSkipped, dropped, removedZeroed, removeTo, removeSome, removeOf}
@@ -23,19 +22,19 @@ use Rattle.writing.specs.Clearing.{cleared, clearOf}
 use Rattle.writing.specs.Fresh.{freshQueue, freshOf}
 use Rattle.writing.specs.declared.answer.Changed.the-variants.{Queue}
 use Rattle.writing.specs.declared.removal.Skipped.{Skipped}
-use Rattle.writing.proofs.CommitLaws.{commit-sound}
+use Rattle.writing.proofs.CommitLaws.{commit-sound, numbers-granted}
 use Rattle.assurance.specs.Held.{Held, elementsOf}
 use Rattle.assurance.specs.Linked.{Linked, Empty, LinkedOrEmpty}
 use Rattle.assurance.specs.Changes.{Leaves, RemoveKeepsQueue, ClearEmpties, CommitKeepsQueue, FreshIsEmpty}
 use Rattle.assurance.proofs.Chain.{Elem, total}
 use Rattle.assurance.proofs.Laid.{Laid}
 use Rattle.assurance.proofs.Bridge.{linked-laid, heldAll, laid-elements, empty-elements}
-use Rattle.assurance.proofs.GrownState.{no-queue}
+use Rattle.assurance.proofs.Answered.{not-kept, done-work, verdict-work}
 use Rattle.assurance.proofs.Vacant.{empty-vacant}
 use Rattle.assurance.proofs.CommitLaid.{length-slotStored, committed-state, committed-laid}
 use Rattle.assurance.proofs.Clearing.{committed-vacant, cleared-vacant, fresh-vacant, stored-vacant}
 use Rattle.assurance.proofs.RemoveLaid.{Skip, skip-laid, zeroed-state, removed-laid}
-use Rattle.assurance.proofs.Leaving.{done-same, numbers-granted, laid-leaves, vacant-leaves, held-same, held-drop, length-held}
+use Rattle.assurance.proofs.Leaving.{laid-leaves, vacant-leaves, held-same, held-drop, length-held}
 
 -- what a work leaves
 abbrev LeavesWork : Work → List Held → Type 0
@@ -62,8 +61,8 @@ commit-leaves img q (inr m) g =
 pub commit-keeps-queue : CommitKeepsQueue
 unfolding commitOf
 commit-keeps-queue img img′ q q′ w h =
-    let a = on-granted (kept img) (judgeCommit q (length img)) (done (committed (q, img))) (Queue q′, img′) (no-queue q′ img img′) h in
-    subst (λ (x : Work). LeavesWork x (elementsOf q img)) (done-same (committed (q, img)) q′ img′ (a .1))
+    let a = verdict-work img q′ img′ (judgeCommit q (length img)) (committed (q, img)) h in
+    subst (λ (x : Work). LeavesWork x (elementsOf q img)) (a .1)
     (commit-leaves img q w (commit-generation q (length img) (a .0)))
 
 -- ---- clear, and a fresh image
@@ -71,19 +70,19 @@ commit-keeps-queue img img′ q q′ w h =
 pub clear-empties : ClearEmpties
 unfolding clearOf
 clear-empties img img′ q q′ h =
-    let a = on-granted (kept img) (judgeCommit q (length img)) (done (cleared (q, img))) (Queue q′, img′) (no-queue q′ img img′) h in
-    subst (λ (x : Work). Empty (x .1) (x .0) × LeavesWork x []) (done-same (cleared (q, img)) q′ img′ (a .1))
+    let a = verdict-work img q′ img′ (judgeCommit q (length img)) (cleared (q, img)) h in
+    subst (λ (x : Work). Empty (x .1) (x .0) × LeavesWork x []) (a .1)
     (vacant-leaves _ _ (cleared-vacant q img (commit-sound q (length img) (a .0)) (commit-generation q (length img) (a .0))))
 
 pub fresh-is-empty : FreshIsEmpty
 unfolding freshOf
 fresh-is-empty img img′ n settings q′ h =
-    let a = granted _ _ _ _ (no-queue q′ img img′ _) h in
-    let b = granted _ _ _ _ (no-queue q′ img img′ _) (a .1) in
-    let d = granted _ _ _ _ (no-queue q′ img img′ _) (b .1) in
+    let a = granted _ _ _ _ (not-kept img q′ img′ _) h in
+    let b = granted _ _ _ _ (not-kept img q′ img′ _) (a .1) in
+    let d = granted _ _ _ _ (not-kept img q′ img′ _) (b .1) in
     let zeros = putAt img 0 (replicate n 0) in
     subst (λ (x : Work). Empty (x .1) (x .0) × LeavesWork x [])
-    (done-same (freshQueue n settings, slotStored (freshQueue n settings) zeros) q′ img′ (d .1))
+    (done-work img q′ img′ (freshQueue n settings, slotStored (freshQueue n settings) zeros) (d .1))
     (vacant-leaves _ _
     (rw (length-slotStored (freshQueue n settings) zeros)
     (stored-vacant (freshQueue n settings) img 0 (replicate n 0)
@@ -131,8 +130,8 @@ module _ (img img′ : List ℕ) (q q′ : QueueFile) (n : ℕ) (w : Linked img 
   some-leaves h =
       let t : removeTo q n img (skip .to) ≡ (Queue q′, img′) =
       ap (λ (x : Skipped). onSkipped (kept img) x (removeTo q n img)) (sym (skip .walked)) ∙ h in
-      let a = on-granted (kept img) (judgeNumbers q 1 0) (done after) (Queue q′, img′) (no-queue q′ img img′) t in
-      subst (λ (x : Work). LeavesWork x (drop n (elementsOf q img))) (done-same after q′ img′ (a .1))
+      let a = verdict-work img q′ img′ (judgeNumbers q 1 0) after t in
+      subst (λ (x : Work). LeavesWork x (drop n (elementsOf q img))) (a .1)
       (subst (λ (l : List Held). LeavesWork after l) (after-held ∙ sym rest-held)
       (laid-leaves _ _ (skip .f) (skip .fs) (removed-laid img q e es n laid skip (numbers-granted q 1 0 (a .0) .0))))
 
@@ -157,7 +156,7 @@ module _ (img img′ : List ℕ) (q q′ : QueueFile) (n : ℕ) (w : LinkedOrEmp
   -- nothing is done, and that is right
   same-left : drop n (elementsOf q img) ≡ elementsOf q img → done (q, img) ≡ (Queue q′, img′) → Left
   same-left d h =
-      subst (λ (x : Work). LeavesWork x (drop n (elementsOf q img))) (done-same (q, img) q′ img′ h) (record { whole = w; holds = sym d })
+      subst (λ (x : Work). LeavesWork x (drop n (elementsOf q img))) (done-work img q′ img′ (q, img) h) (record { whole = w; holds = sym d })
 
   all-left : leb (q .«elem_cnt») n ≡ true → clearOf q img ≡ (Queue q′, img′) → Left
   all-left t h = rw (none-left img q n w (leb-true _ _ t)) (clear-empties img img′ q q′ h .1)
@@ -175,7 +174,7 @@ module _ (img img′ : List ℕ) (q q′ : QueueFile) (n : ℕ) (w : LinkedOrEmp
       (λ t. branch (eqb (q .«elem_cnt») 0) _ _ _
       (λ z. same-left (none-left img q n w (omega (arith, eqb-true (q .«elem_cnt») 0 z)) ∙ sym (empty-elements img q (eqb-true _ _ z))))
       (λ z. branch (leb (q .«elem_cnt») n) _ _ _ all-left (some-left w z)))
-      (granted _ _ _ _ (no-queue q′ img img′ _) h .1)
+      (granted _ _ _ _ (not-kept img q′ img′ _) h .1)
 
 pub remove-keeps-queue : RemoveKeepsQueue
 remove-keeps-queue img img′ q q′ n w h = removed-left img img′ q q′ n w h

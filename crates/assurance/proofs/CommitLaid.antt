@@ -14,7 +14,7 @@ use Rattle.queue.proofs.OpenLaws.{offset-low}
 use Rattle.writing.specs.Work.{Work}
 use Rattle.writing.specs.Commit.{slotOf, slotStored, nextState, committed}
 use Rattle.assurance.proofs.Chain.{Elem, Agree, total, agree-slot, chain-frame}
-use Rattle.assurance.proofs.Laid.{Laid}
+use Rattle.assurance.proofs.Laid.{Laid, laid-with}
 
 -- ---- a slot that is stored
 
@@ -42,35 +42,8 @@ pub committed-laid : (img : List ℕ) (q : QueueFile) (e : Elem) (es : List Elem
     → Laid (committed (q, img) .1) (committed (q, img) .0) e es
 unfolding committed
 committed-laid img q e es k g =
-    let l = length-slotStored (nextState q) img in
-    record {
-      lengths = record {
-        start = k .lengths .start;
-        real = k .lengths .real;
-        inside = omega (arith, l, k .lengths .inside);
-        small = k .lengths .small;
-      };
-      numbers = record {
-        next-some = k .numbers .next-some;
-        next-small = k .numbers .next-small;
-        generation = g;
-        count = k .numbers .count;
-      };
-      first-low = k .first-low;
-      last-low = k .last-low;
-      count = k .count;
-      holds =
-          chain-frame (e ∷ es) img (slotStored (nextState q) img) (capacity (q .«file_len»)) (capacity (q .«file_len»)) (q .first .pos)
-          (omega arith)
-          (agree-stored (nextState q) img (capacity (q .«file_len»)) (q .first .pos) (total (e ∷ es)))
-          (k .holds);
-      fits = k .fits;
-      rising = k .rising;
-      backs = k .backs;
-      seqs = k .seqs;
-      first-len = k .first-len;
-      first-seq = k .first-seq;
-      last-place = k .last-place;
-      last-len = k .last-len;
-      last-seq = k .last-seq;
-    }
+    let s = nextState q in
+    laid-with img (slotStored s img) q e es (s .format) k refl g (length-slotStored s img)
+    (chain-frame (e ∷ es) img (slotStored s img) (capacity (q .«file_len»)) (capacity (q .«file_len»)) (q .first .pos) (omega arith)
+    (agree-stored s img (capacity (q .«file_len»)) (q .first .pos) (total (e ∷ es)))
+    (k .holds))

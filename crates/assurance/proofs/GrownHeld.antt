@@ -1,9 +1,9 @@
 -- The list of what a grown queue holds is the list before with places and backlinks moved: an element on the straight line at p stands at
 -- p mod the old capacity before, and at p itself then; only those at the old capacity and past it stood before first. Assumes nothing.
 use mathlib.Core.Path.{_≡_, refl, sym, ap, _∙_}
-use mathlib.Core.Bool.{Bool, true, false, cond, _&&_}
+use mathlib.Core.Bool.{Bool, true, false, cond}
 use mathlib.Core.List.{List, [], _∷_}
-use Prim.Native.Nat.{ℕ, _+_, _-_, _*_, _%_, _≤_, _<_}
+use Prim.Native.Nat.{ℕ, _+_, _-_, _%_, _≤_, _<_}
 use native.Mathlib.Nat.{mod-eq-of-lt}
 use native.Mathlib.Decide.{decLt}
 use native.Mathlib.Omega.{arith}
@@ -14,7 +14,7 @@ use Rattle.ring.proofs.Places.{turn-high}
 use Rattle.queue.specs.Element.{capacity}
 use Rattle.queue.specs.declared.state.QueueFile.{QueueFile}
 use Rattle.writing.specs.Growth.{endOfLast, wrapped}
-use Rattle.writing.specs.Expansion.{grown, Expands}
+use Rattle.writing.specs.Expansion.{Expands}
 use Rattle.writing.proofs.StateLaws.{wrapped-end}
 use Rattle.assurance.specs.Held.{Held, sequencesOf, payloadsOf}
 use Rattle.assurance.specs.Growth.{moves, grownPlace, grownElement, grownElements}
@@ -35,11 +35,11 @@ held-payloads q n [] = refl
 held-payloads q n (h ∷ hs) = ap (λ (l : List (List ℕ)). h .payload ∷ l) (held-payloads q n hs)
 
 -- all of it where nothing moves
-held-same : (q : QueueFile) (n : ℕ) (hs : List Held) → moves q n ≡ false → grownElements q n hs ≡ hs
-held-same q n [] m = refl
-held-same q n (h ∷ hs) m =
+held-still : (q : QueueFile) (n : ℕ) (hs : List Held) → moves q n ≡ false → grownElements q n hs ≡ hs
+held-still q n [] m = refl
+held-still q n (h ∷ hs) m =
     let one : grownElement q n h ≡ h = rw (m) in
-    rw (one, held-same q n hs m)
+    rw (one, held-still q n hs m)
 
 -- the places too, where nothing wraps
 held-straight : (size new p : ℕ) (es : List Elem) → p + total es ≤ size → size ≤ new → heldAll new p es ≡ heldAll size p es
@@ -91,7 +91,7 @@ module _ (img : List ℕ) (q : QueueFile) (e : Elem) (es : List Elem) (n : ℕ) 
       stays : moves q n ≡ false → heldAll (capacity n) (q .first .pos) (e ∷ es) ≡ heldAll (capacity (q .«file_len»)) (q .first .pos) (e ∷ es)
           → heldAll (capacity n) (q .first .pos) (grownElems q n (e ∷ es))
           ≡ grownElements q n (heldAll (capacity (q .«file_len»)) (q .first .pos) (e ∷ es))
-      stays m s = ap (heldAll (capacity n) (q .first .pos)) (grown-same q n (e ∷ es) m) ∙ s ∙ sym (held-same q n _ m)
+      stays m s = ap (heldAll (capacity n) (q .first .pos)) (grown-same q n (e ∷ es) m) ∙ s ∙ sym (held-still q n _ m)
 
       go : (longer wraps : Bool) → ltb (q .«file_len») n ≡ longer → wrapped q ≡ wraps
           → heldAll (capacity n) (q .first .pos) (grownElems q n (e ∷ es))

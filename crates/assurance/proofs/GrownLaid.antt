@@ -1,55 +1,44 @@
 -- Growth keeps what a queue holds: a state and an image with the elements e and es have, once grown, the same ones, on the straight line
 -- that they were on, with the backlinks that `grownLink` tells. Assumes nothing.
 use mathlib.Core.Path.{_≡_, refl, sym, ap, _∙_, subst}
-use mathlib.Core.Bool.{Bool, true, false, not, cond, _&&_}
-use mathlib.Core.List.{List, [], _∷_}
-use Prim.Native.Nat.{ℕ, suc, _+_, _-_, _*_, _%_, _^_, _≤_, _<_}
+use mathlib.Core.Bool.{Bool, true, false, cond}
+use mathlib.Core.List.{List, _∷_}
+use Prim.Native.Nat.{ℕ, suc, _+_, _-_, _%_, _^_, _≤_, _<_}
 use native.Mathlib.Nat.{mod-eq-of-lt}
 use native.Mathlib.Decide.{decLt}
 use native.Mathlib.Omega.{arith}
 use lib.ListN.{length, replicate, length-replicate}
 use lib.Seq.{length-sets}
-use lib.Dec.{ltb, leb, eqb}
-use borrow.Author.Tests.{lt-ltb, le-ltb, leb-false, ne-eqb, ltb-true, ltb-false}
+use lib.Dec.{ltb}
+use borrow.Author.Tests.{lt-ltb, le-ltb, leb-false, ne-eqb, ltb-true}
 use Rattle.wire.specs.Wire.{putAt}
 use Rattle.ring.specs.Ring.{ringWrite, relocated}
 use Rattle.ring.proofs.Places.{turn-high}
 use Rattle.ring.proofs.Writing.{write-straight}
 use Rattle.ring.proofs.Relocating.{length-relocated}
-use Rattle.header.specs.Slot.{slotOffset, slotBytes}
-use Rattle.header.specs.declared.HeaderSlot.{HeaderSlot}
-use Rattle.header.specs.declared.HeaderSlot.the-variants.{A, B}
-use Rattle.header.proofs.RoundTrip.{length-slotBytes}
 use Rattle.format.specs.declared.state.V2Format.{V2Format}
 use Rattle.queue.specs.Element.{element, capacity}
 use Rattle.queue.specs.declared.state.QueueFile.{QueueFile}
 use Rattle.writing.specs.Work.{Work, withLength}
-use Rattle.writing.specs.Commit.{slotOf, slotStored, nextFormat, nextState, committed}
+use Rattle.writing.specs.Commit.{slotStored, nextFormat, nextState, committed}
 use Rattle.writing.specs.Growth.{endOfLast, wrapped}
 use Rattle.writing.specs.Expansion.{lengthened, relinkFrom, lastPlaced, startZeroed, laidStraight, expanded, grown, Expands}
 use Rattle.writing.proofs.Choices.{either}
 use Rattle.writing.proofs.StateLaws.{wrapped-end}
 use Rattle.assurance.specs.Growth.{moves, grownPlace}
-use Rattle.assurance.proofs.Chain.{Elem, span, total, lastOf, lastFrom, Backs, Chain, Agree, chain-frame, agree-behind, agree-slot, agree-past, last-end, last-after}
+use Rattle.assurance.proofs.Chain.{Elem, total, lastFrom, Backs, Chain, Agree, chain-frame, agree-behind, agree-past, last-end, last-after}
 use Rattle.assurance.proofs.Laid.{Laid, laid-some, end-wraps, end-straight}
-use Rattle.assurance.proofs.GrownState.{commitsAt, grownState, grown-state, length-grown}
+use Rattle.assurance.proofs.CommitLaid.{agree-stored}
+use Rattle.assurance.proofs.GrownState.{commitsAt, grown-state, length-grown}
 use Rattle.assurance.proofs.Relinking.{grownElem, grownElems, grown-length, grown-total, grown-rising, grown-last, grown-from, grown-same, rising-small, agree-straight, agree-moved, straight-backs, backs-move, walk-chain}
 
 -- ---- steps that leave a chain
 
-slot-inside : (s : HeaderSlot) → slotOffset s + 56 ≤ 8192
-slot-inside A = omega arith
-slot-inside B = omega arith
-
 -- a commit stores before the ring
 pub committed-chain : (w : Work) (size p : ℕ) (es : List Elem) → Chain (w .1) size p es → Chain (committed w .1) size p es
-unfolding committed slotStored
+unfolding committed
 committed-chain w size p es c =
-    let s = nextState (w .0) in
-    chain-frame es (w .1) (putAt (w .1) (slotOffset (s .format .«active_slot»)) (slotBytes (slotOf s))) size size p (omega arith)
-    (agree-slot (w .1) size (slotOffset (s .format .«active_slot»)) (slotBytes (slotOf s)) p (total es)
-    (omega (arith, length-slotBytes (slotOf s), slot-inside (s .format .«active_slot»))))
-    c
+    chain-frame es (w .1) (slotStored (nextState (w .0)) (w .1)) size size p (omega arith) (agree-stored (nextState (w .0)) (w .1) size p (total es)) c
 
 placed-chain : (old : ℕ) (w : Work) (size p : ℕ) (es : List Elem) → Chain (w .1) size p es → Chain (lastPlaced old w .1) size p es
 unfolding lastPlaced

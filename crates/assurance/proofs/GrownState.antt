@@ -10,31 +10,26 @@ use native.Mathlib.Omega.{arith}
 use lib.ListN.{length, replicate}
 use lib.Seq.{length-sets}
 use lib.Dec.{ltb}
-use borrow.Author.Tests.{lt-ltb, le-ltb, ltb-true, ltb-false}
-use Rattle.refusal.specs.declared.Refusal.{Refusal}
-use Rattle.refusal.proofs.Laws.{granted, refused}
-use Rattle.ring.specs.Ring.{relocated}
+use borrow.Author.Tests.{lt-ltb, le-ltb}
 use Rattle.ring.proofs.Relocating.{length-relocated}
-use Rattle.header.specs.Slot.{slotOffset, slotBytes}
-use Rattle.queue.specs.Element.{element, capacity}
+use Rattle.queue.specs.Element.{element}
 use Rattle.queue.specs.State.{remainingBytes, sound}
 use Rattle.queue.specs.declared.state.QueueFile.{QueueFile}
-use Rattle.queue.specs.declared.state.Count.{Count}
 use Rattle.queue.specs.declared.state.Count.the-variants.{Bytes, Refused}
 use Rattle.queue.proofs.AnswerLaws.{on-granted}
 use Rattle.queue.proofs.Sound.{sound-lengths}
-use Rattle.writing.specs.Work.{Work, kept, onCount}
-use Rattle.writing.specs.Commit.{slotStored, slotOf, nextFormat, nextState, committed, judgeNumbers}
+use Rattle.writing.specs.Work.{Work}
+use Rattle.writing.specs.Commit.{nextFormat, committed, judgeNumbers}
 use Rattle.writing.specs.Length.{growLength}
 use Rattle.writing.specs.Growth.{endOfLast, wrapped, commitsGrowth, growthCommits, judgeLength}
-use Rattle.writing.specs.Expansion.{lengthened, relinkFrom, lastPlaced, startZeroed, laidStraight, expanded, grown}
-use Rattle.writing.specs.declared.answer.Changed as Answer
-use Rattle.writing.specs.declared.answer.Changed.the-variants as Changed
+use Rattle.writing.specs.Expansion.{lengthened, lastPlaced, startZeroed, laidStraight, expanded, grown}
 use Rattle.writing.proofs.Choices.{either}
+use Rattle.writing.proofs.CommitLaws.{numbers-granted}
 use Rattle.writing.proofs.LengthLaws.{no-bytes, length-doubles, length-same, length-grows}
 use Rattle.writing.proofs.PlanLaws.{length-planned}
 use Rattle.writing.proofs.RelinkLaws.{length-relink}
 use Rattle.assurance.specs.Growth.{moves, grownPlace}
+use Rattle.assurance.proofs.CommitLaid.{length-committed}
 
 -- ---- the state
 
@@ -106,10 +101,6 @@ module _ (q : QueueFile) (img : List ℕ) (n : ℕ) where
 
 -- ---- the image's length: each step leaves it
 
-length-committed : (w : Work) → length (committed w .1) ≡ length (w .1)
-unfolding committed slotStored
-length-committed w = length-sets (w .1) (slotOffset (nextState (w .0) .format .«active_slot»)) (slotBytes (slotOf (nextState (w .0))))
-
 length-placed : (old : ℕ) (w : Work) → length (lastPlaced old w .1) ≡ length (w .1)
 unfolding lastPlaced
 length-placed old w =
@@ -179,34 +170,8 @@ module _ (q : QueueFile) (len span commits elements n : ℕ) (s : sound q len �
 
   -- there is room for the commits that were asked for and growth's own, and for the elements
   pub planned-numbers : (q .format .generation + (commits + cond (commitsAt q n) 1 0) < 2 ^ 63) × (q .format .«next_seq» + elements < 2 ^ 63)
-  unfolding judgeLength judgeNumbers
+  unfolding judgeLength
   planned-numbers =
-      let j = on-granted Refused (judgeNumbers q (commits + growthCommits q span) elements) _ (Bytes n) (λ r. no-bytes) e .0 in
-      let a = granted _ _ _ _ refused j in
-      let b = granted _ _ _ _ refused (a .1) in (
-        ltb-true (q .format .generation + (commits + cond (commitsAt q n) 1 0)) (2 ^ 63) (rw (← planned-commits) (a .0)),
-        ltb-true _ _ (b .0),
-      )
-
--- ---- an answer that goes on from a number
-
-pub record Counted {A : Type 0} (c : Count) (next : ℕ → A) (a : A) : Type 0 where
-  pub n : ℕ
-  pub bytes : c ≡ Bytes n
-  pub same : next n ≡ a
-
--- one that is no refusal has gone on
-pub counted : {A : Type 0} (refuse : Refusal → A) (c : Count) (next : ℕ → A) (a : A) → ((r : Refusal) → refuse r ≡ a → ⊥)
-    → onCount refuse c next ≡ a → Counted c next a
-counted refuse (Bytes n) next a k e = record { n = n; bytes = refl; same = e }
-counted refuse (Refused r) next a k e = absurd (k r e)
-
--- a refusal is not a queue
-not-answered : {r : Refusal} {q : QueueFile} → Changed.Refused r ≡ Changed.Queue q → ⊥
-not-answered e = let z : _≡_ {A = ℕ} 0 1 = cc in omega arith
-
-pub no-queue : (q : QueueFile) (img img′ : List ℕ) (r : Refusal) → kept img r ≡ (Changed.Queue q, img′) → ⊥
-no-queue q img img′ r e = not-answered (ap (λ (a : Answer.Changed × List ℕ). a .0) e)
-
-pub same-queue : {q q′ : QueueFile} → Changed.Queue q ≡ Changed.Queue q′ → q ≡ q′
-same-queue e = cc
+      rw (← planned-commits)
+      (numbers-granted q (commits + growthCommits q span) elements
+      (on-granted Refused (judgeNumbers q (commits + growthCommits q span) elements) _ (Bytes n) (λ r. no-bytes) e .0))

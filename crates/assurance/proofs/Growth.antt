@@ -1,34 +1,27 @@
 -- Growth keeps the queue: the theorem. Assumes nothing.
-use mathlib.Core.Path.{_≡_, sym, ap, _∙_, subst}
+use mathlib.Core.Path.{_≡_, ap, _∙_, subst}
 use mathlib.Core.Bool.{true}
-use mathlib.Core.List.{List, _∷_}
+use mathlib.Core.List.{List}
 use Prim.Native.Nat.{ℕ, _+_, _^_, _≤_, _<_}
-use native.Mathlib.Omega.{arith}
 use lib.ListN.{length}
-use Rattle.refusal.specs.declared.Refusal.{Refusal}
 use Rattle.refusal.proofs.Laws.{granted}
-use Rattle.queue.specs.Element.{capacity}
 use Rattle.queue.specs.State.{sound}
-use Rattle.queue.specs.Recover.{recoverHead}
 use Rattle.queue.specs.declared.state.QueueFile.{QueueFile}
 use Rattle.queue.specs.declared.state.Count.the-variants.{Bytes}
 use Rattle.queue.specs.declared.recover.Recovered.the-variants.{Head}
-use Rattle.writing.specs.Work.{Work, done, kept}
+use Rattle.writing.specs.Work.{Work}
 use Rattle.writing.specs.Growth.{judgeLength, checkGrowth}
 use Rattle.writing.specs.Expansion.{grown, judgeExpansion, expandOf, Expands}
-use Rattle.writing.specs.declared.answer.Changed.{Changed}
-use Rattle.writing.specs.declared.answer.Changed.the-variants.{Queue}
 use Rattle.writing.proofs.LengthLaws.{no-bytes}
 use Rattle.writing.proofs.PlanLaws.{checked-planned, expansion-expands}
-use Rattle.assurance.specs.Held.{elementsOf, placesBack, sequencesOf, payloadsOf}
+use Rattle.assurance.specs.Held.{elementsOf, sequencesOf, payloadsOf}
 use Rattle.assurance.specs.Linked.{Linked}
-use Rattle.assurance.specs.Recovery.{Trail}
 use Rattle.assurance.specs.Growth.{grownElements, Grown, GrowthKeepsQueue, GrowthStaysLinked}
-use Rattle.assurance.proofs.Chain.{Elem}
 use Rattle.assurance.proofs.Laid.{Laid}
 use Rattle.assurance.proofs.Bridge.{Unrolled, linked-laid, laid-linked, laid-elements}
 use Rattle.assurance.proofs.LaidRecovery.{laid-trail, laid-recovers}
-use Rattle.assurance.proofs.GrownState.{commitsAt, grown-file, grown-first, planned-file, planned-numbers, Counted, counted, same-queue, no-queue}
+use Rattle.assurance.proofs.Answered.{count-work}
+use Rattle.assurance.proofs.GrownState.{commitsAt, grown-file, grown-first, planned-file, planned-numbers}
 use Rattle.assurance.proofs.Relinking.{grownElem, grownElems}
 use Rattle.assurance.proofs.GrownLaid.{grown-laid}
 use Rattle.assurance.proofs.GrownHeld.{held-sequences, held-payloads, grown-held}
@@ -64,31 +57,22 @@ module _ (img : List ℕ) (q : QueueFile) (n : ℕ) (k : Linked img q) (least : 
     recovered = laid-recovers img₁ q₁ (grownElem q n (u .e)) (grownElems q n (u .es)) laid ∙ ap Head (grown-first q img n);
   }
 
--- from an answer to the length that was planned
-expansion-counted : (img : List ℕ) (q : QueueFile) (span : ℕ) (a : Changed × List ℕ) → ((r : Refusal) → kept img r ≡ a → ⊥)
-    → expandOf q span img ≡ a → Counted (judgeExpansion q (length img) span) (λ n. done (grown n (q, img))) a
-unfolding expandOf
-expansion-counted img q span a k e =
-    let c = counted (kept img) (checkGrowth q img (judgeExpansion q (length img) span)) (λ n. done (grown n (q, img))) a k e in
-    record { n = c .n; bytes = checked-planned q img (judgeExpansion q (length img) span) (c .n) (c .bytes); same = c .same }
-
 expansion-planned : (q : QueueFile) (len span n : ℕ) → judgeExpansion q len span ≡ Bytes n → judgeLength q len span 0 0 ≡ Bytes n
 unfolding judgeExpansion
 expansion-planned q len span n e = granted (sound q len) _ (judgeLength q len span 0 0) (Bytes n) no-bytes e .1
 
 pub growth-keeps-queue : GrowthKeepsQueue
+unfolding expandOf
 growth-keeps-queue img img′ q q′ span k e =
-    let c = expansion-counted img q span (Queue q′, img′) (no-queue q′ img img′) e in
-    let p = expansion-planned q (length img) span (c .n) (c .bytes) in
-    let room : commitsAt q (c .n) ≡ true → q .format .generation + 1 < 2 ^ 63 =
-    λ t. rw (t) at (planned-numbers q (length img) span 0 0 (c .n) (k .sound) p .0) in
-    let g = grown-linked img q (c .n) k (planned-file q (length img) span 0 0 (c .n) (k .sound) p) (expansion-expands q (length img) span (c .n) (c .bytes)) room in
-    kept-by (grown (c .n) (q, img)) (c .same) g
-  where
-    kept-by : (w : Work) → done w ≡ (Queue q′, img′) → Grown img q (w .1) (w .0) → Grown img q img′ q′
-    kept-by w s g =
-        subst (λ (i : List ℕ). Grown img q i q′) (ap (λ (a : Changed × List ℕ). a .1) s)
-        (subst (Grown img q (w .1)) (same-queue (ap (λ (a : Changed × List ℕ). a .0) s)) g)
+    let j = judgeExpansion q (length img) span in
+    let c = count-work img q′ img′ (checkGrowth q img j) (λ n. grown n (q, img)) e in
+    let n = c .bytes in
+    let b = checked-planned q img j n (c .count) in
+    let p = expansion-planned q (length img) span n b in
+    let room : commitsAt q n ≡ true → q .format .generation + 1 < 2 ^ 63 =
+    λ t. rw (t) at (planned-numbers q (length img) span 0 0 n (k .sound) p .0) in
+    subst (λ (w : Work). Grown img q (w .1) (w .0)) (c .work)
+    (grown-linked img q n k (planned-file q (length img) span 0 0 n (k .sound) p) (expansion-expands q (length img) span n b) room)
 
 pub growth-stays-linked : GrowthStaysLinked
 growth-stays-linked img img′ q q′ span k e = growth-keeps-queue img img′ q q′ span k e .linked

@@ -1,9 +1,9 @@
 -- A linked queue, unrolled: its elements as a list that stands in the image, with what the state says of them. Its soundness, its used
 -- bytes and the end of its last element are sums over that list. Assumes nothing.
-use mathlib.Core.Path.{_≡_, ap, _∙_}
+use mathlib.Core.Path.{_≡_, sym, ap, _∙_}
 use mathlib.Core.Bool.{true}
 use mathlib.Core.List.{List, _∷_}
-use Prim.Native.Nat.{ℕ, suc, _+_, _-_, _%_, _≤_, _<_}
+use Prim.Native.Nat.{ℕ, suc, _+_, _-_, _%_, _^_, _≤_, _<_}
 use native.Mathlib.Nat.{mod-eq-of-lt, mod-add-mod, add-mod-right}
 use native.Mathlib.Decide.{decLt}
 use native.Mathlib.Omega.{arith}
@@ -12,12 +12,15 @@ use borrow.Author.Tests.{lt-ltb, le-leb, ne-eqb}
 use Rattle.ring.specs.Ring.{ringDistance}
 use Rattle.ring.proofs.Places.{turn-high}
 use Rattle.format.specs.Element.{elementSpan}
-use Rattle.queue.specs.Element.{capacity}
-use Rattle.queue.specs.State.{endsUsed, soundLengths, soundNumbers, soundEnds, sound}
+use Rattle.format.specs.declared.state.V2Format.{V2Format}
+use Rattle.format.specs.declared.element.ParsedHeader.the-variants.{Header}
+use Rattle.queue.specs.Element.{capacity, headerAt}
+use Rattle.queue.specs.State.{endsUsed, soundEnds, sound}
 use Rattle.queue.specs.declared.state.QueueFile.{QueueFile}
-use Rattle.queue.proofs.Sound.{Lengths, Numbers}
+use Rattle.queue.proofs.Sound.{Lengths, Numbers, lengths-sound, numbers-sound}
+use Rattle.writing.specs.Work.{withFormat}
 use Rattle.writing.specs.Growth.{endOfLast}
-use Rattle.assurance.proofs.Chain.{Elem, span, total, Chain, Rising, Backs, lastOf, lastFrom, last-end, last-after}
+use Rattle.assurance.proofs.Chain.{Elem, headerOf, span, total, Chain, Rising, Backs, lastOf, lastFrom, header-there, last-end, last-after, last-holds}
 
 -- e and es are the elements that the state and the image hold
 pub record Laid (img : List ℕ) (q : QueueFile) (e : Elem) (es : List Elem) : Type 0 where
@@ -37,10 +40,42 @@ pub record Laid (img : List ℕ) (q : QueueFile) (e : Elem) (es : List Elem) : T
   pub last-len : q .last .len ≡ length (lastOf e es .payload)
   pub last-seq : q .last .seq ≡ lastOf e es .seq
 
+-- they stand in an image that is as long, whatever its generation and its slot
+pub laid-with : (img img′ : List ℕ) (q : QueueFile) (e : Elem) (es : List Elem) (f : V2Format) → Laid img q e es
+    → f .«next_seq» ≡ q .format .«next_seq» → f .generation < 2 ^ 63 → length img′ ≡ length img
+    → Chain img′ (capacity (q .«file_len»)) (q .first .pos) (e ∷ es) → Laid img′ (withFormat q f) e es
+laid-with img img′ q e es f k s g l c = record {
+  lengths = record {
+    start = k .lengths .start;
+    real = k .lengths .real;
+    inside = omega (arith, l, k .lengths .inside);
+    small = k .lengths .small;
+  };
+  numbers = record {
+    next-some = omega (arith, s, k .numbers .next-some);
+    next-small = omega (arith, s, k .numbers .next-small);
+    generation = g;
+    count = k .numbers .count;
+  };
+  first-low = k .first-low;
+  last-low = k .last-low;
+  count = k .count;
+  holds = c;
+  fits = k .fits;
+  rising = k .rising;
+  backs = k .backs;
+  seqs = s ∙ k .seqs;
+  first-len = k .first-len;
+  first-seq = k .first-seq;
+  last-place = k .last-place;
+  last-len = k .last-len;
+  last-seq = k .last-seq;
+}
+
 -- ---- used bytes
 
 -- the distance to a place less than a turn further, reduced, is what lies between
-distance-unrolled : (size p r : ℕ) → p < size → p ≤ r → r < p + size → ringDistance size p (r % size) ≡ r - p
+pub distance-unrolled : (size p r : ℕ) → p < size → p ≤ r → r < p + size → ringDistance size p (r % size) ≡ r - p
 distance-unrolled size p r h a b =
     rw (mod-eq-of-lt {n = p} {m = size} h)
     (mod-add-mod r size (size - p)
@@ -63,22 +98,20 @@ module _ (img : List ℕ) (q : QueueFile) (e : Elem) (es : List Elem) (k : Laid 
       (omega (arith, last-end first e es, k .fits)) in
       omega (arith, d, k .last-len, last-end first e es, last-after first e es)
 
+  -- ---- its ends' headers
+
+  pub header-first : headerAt img (q .«file_len») first ≡ Header (headerOf e)
+  header-first = header-there img (q .«file_len») first first e (sym (mod-eq-of-lt {n = first} {m = size} (k .first-low))) (k .holds .0)
+
+  pub header-last : headerAt img (q .«file_len») (q .last .pos) ≡ Header (headerOf (lastOf e es))
+  header-last =
+      header-there img (q .«file_len») (lastFrom first e es) (q .last .pos) (lastOf e es) (k .last-place)
+      (last-holds es img size first e (k .holds))
+
   -- ---- soundness
 
   pub laid-some : q .«elem_cnt» ≡ 0 → ⊥
   laid-some z = omega (arith, k .count)
-
-  lengths-sound : soundLengths q (length img) ≡ true
-  unfolding soundLengths
-  lengths-sound =
-      let l = k .lengths in
-      rw (le-leb _ _ (l .start), le-leb _ _ (l .real), le-leb _ _ (l .inside), lt-ltb _ _ (l .small))
-
-  numbers-sound : soundNumbers q ≡ true
-  unfolding soundNumbers
-  numbers-sound =
-      let n = k .numbers in
-      rw (ne-eqb (q .format .«next_seq») 0 (λ z. omega (arith, n .next-some)), lt-ltb _ _ (n .next-small), lt-ltb _ _ (n .generation), lt-ltb _ _ (n .count))
 
   ends-sound : soundEnds q ≡ true
   unfolding soundEnds
@@ -93,7 +126,7 @@ module _ (img : List ℕ) (q : QueueFile) (e : Elem) (es : List Elem) (k : Laid 
 
   pub laid-sound : sound q (length img) ≡ true
   unfolding sound
-  laid-sound = rw (lengths-sound, numbers-sound, ne-eqb (q .«elem_cnt») 0 laid-some, ends-sound)
+  laid-sound = rw (lengths-sound q (length img) (k .lengths), numbers-sound q (k .numbers), ne-eqb (q .«elem_cnt») 0 laid-some, ends-sound)
 
   -- ---- the end of last
 

@@ -12,28 +12,24 @@ use Rattle.refusal.proofs.Laws.{pass}
 use Rattle.ring.specs.declared.place.Placed.the-variants as Placed
 use Rattle.format.specs.declared.element.ParsedHeader.{ParsedHeader}
 use Rattle.format.specs.declared.element.ParsedHeader.the-variants as Parsed
-use Rattle.queue.specs.Element.{element, isEmptyElement, capacity, headerAt, inSequence, headerInSequence}
+use Rattle.queue.specs.Element.{element, isEmptyElement, inSequence, headerInSequence}
 use Rattle.queue.specs.Places.{toLogical}
-use Rattle.queue.specs.State.{soundLengths, soundNumbers, noEnds, soundEnds, sound}
+use Rattle.queue.specs.State.{noEnds, sound}
 use Rattle.queue.specs.Recover.{recoverHead}
 use Rattle.queue.specs.Opening.{withEnds, orRecovered, firstElement, openEnds, openedFrom, fromState, openQueue}
 use Rattle.queue.specs.declared.element.Element.{Element}
 use Rattle.queue.specs.declared.state.QueueFile.{QueueFile}
 use Rattle.queue.specs.declared.recover.Recovered.the-variants as Recovered
 use Rattle.queue.specs.declared.opening.Opened.the-variants.{Queue}
+use Rattle.queue.proofs.Sound.{sound-empty}
 use Rattle.writing.specs.Commit.{pointerTo, slotOf}
+use Rattle.writing.proofs.CommitLaws.{pointer-some}
 use Rattle.assurance.specs.Linked.{Empty}
 use Rattle.assurance.specs.Reopening.{Stored, Reopens}
-use Rattle.assurance.proofs.Chain.{Elem, headerOf, lastOf, lastFrom, headerIn, header-in, header-mod, last-holds, rising-last}
-use Rattle.assurance.proofs.Laid.{Laid, laid-some}
+use Rattle.assurance.proofs.Chain.{Elem, headerOf, lastOf, rising-last}
+use Rattle.assurance.proofs.Laid.{Laid, header-first, header-last, laid-some}
 
 -- ---- pointers
-
-pub pointer-none : (n : ℕ) (e : Element) → n ≡ 0 → pointerTo n e ≡ 0
-pointer-none n e z = ap (λ (t : Bool). cond t 0 (8192 + e .pos)) (eq-eqb n 0 z)
-
-pub pointer-some : (n : ℕ) (e : Element) → (n ≡ 0 → ⊥) → pointerTo n e ≡ 8192 + e .pos
-pointer-some n e m = ap (λ (t : Bool). cond t 0 (8192 + e .pos)) (ne-eqb n 0 m)
 
 -- a pointer names its element's place
 pointer-back : (n : ℕ) (e : Element) → (n ≡ 0 → ⊥) → toLogical (pointerTo n e) ≡ Placed.At (e .pos)
@@ -55,22 +51,10 @@ stored-from img q e = ap (fromState img (q .«real_len») (q .settings)) e
 -- ---- a queue with elements
 
 module _ (img : List ℕ) (q : QueueFile) (e : Elem) (es : List Elem) (k : Laid img q e es) where
-  at-first : headerAt img (q .«file_len») (q .first .pos) ≡ Parsed.Header (headerOf e)
-  at-first = header-in img (q .«file_len») (q .first .pos) ∙ k .holds .0 .header
-
-  at-last : headerAt img (q .«file_len») (q .last .pos) ≡ Parsed.Header (headerOf (lastOf e es))
-  at-last =
-      let size = capacity (q .«file_len») in
-      let p = lastFrom (q .first .pos) e es in
-      header-in img (q .«file_len») (q .last .pos)
-      ∙ ap (headerIn size img) (k .last-place)
-      ∙ header-mod size img p
-      ∙ last-holds es img size (q .first .pos) e (k .holds) .header
-
   -- last has the sequence before the next one
   last-sequence : headerInSequence img (q .«file_len») (q .last .pos) (q .format .«next_seq» - 1) ≡ Parsed.Header (headerOf (lastOf e es))
   last-sequence =
-      ap (inSequence (q .format .«next_seq» - 1)) at-last
+      ap (inSequence (q .format .«next_seq» - 1)) (header-last img q e es k)
       ∙ pass _ _ _ (eq-eqb (lastOf e es .seq) (q .format .«next_seq» - 1) (omega (arith, k .seqs, rising-last e es (k .rising))))
 
   -- first's header is valid, so it is taken
@@ -79,7 +63,7 @@ module _ (img : List ℕ) (q : QueueFile) (e : Elem) (es : List Elem) (k : Laid 
   first-taken last =
       ap
       (λ (d : ParsedHeader). orRecovered d (q .first .pos) (recoverHead img (q .«file_len») (last .pos) (last .seq) (q .«elem_cnt»)))
-      at-first
+      (header-first img q e es k)
       ∙ rw (← k .first-len, ← k .first-seq)
 
   ends-open : openEnds img (bare q) (slotOf q) ≡ Queue q
@@ -122,12 +106,7 @@ no-ends q h =
     ∙ ap (withEnds q (element 0 0 0)) (empty-element (q .last) (a .1)))
 
 empty-bare : (img : List ℕ) (q : QueueFile) → Empty img q → bare q ≡ q
-unfolding sound
-empty-bare img q m =
-    let ends = cond (eqb (q .«elem_cnt») 0) (noEnds q) (soundEnds q) in
-    let a = and-eq-true-iff (soundLengths q (length img)) (soundNumbers q && ends) .0 (m .sound) .1 in
-    let b = and-eq-true-iff (soundNumbers q) ends .0 a .1 in
-    no-ends q (sym (ap (λ (t : Bool). cond t (noEnds q) (soundEnds q)) (eq-eqb _ _ (m .none))) ∙ b)
+empty-bare img q m = no-ends q (sound-empty q (length img) (m .sound) (m .none))
 
 pub empty-opens : (img : List ℕ) (q : QueueFile) → Empty img q → Stored img q → Reopens img q
 empty-opens img q m s =

@@ -19,7 +19,7 @@ use Rattle.queue.specs.declared.state.QueueFile.{QueueFile}
 use Rattle.queue.specs.declared.recover.Recovered.the-variants.{Head}
 use Rattle.assurance.specs.Held.{elementsOf, placesBack}
 use Rattle.assurance.specs.Recovery.{Trail}
-use Rattle.assurance.proofs.Chain.{Elem, headerOf, span, Holds, Chain, Rising, Backs, lastOf, lastFrom, header-in, header-mod, rising-last}
+use Rattle.assurance.proofs.Chain.{Elem, headerOf, span, Chain, Rising, Backs, lastOf, lastFrom, header-there, rising-last}
 use Rattle.assurance.proofs.Laid.{Laid}
 use Rattle.assurance.proofs.Recovery.{recovery-is-exact}
 use Rattle.assurance.proofs.Bridge.{heldAll, laid-elements}
@@ -89,10 +89,6 @@ pub record BackOver (img : List ℕ) (file p : ℕ) (e : Elem) (es : List Elem) 
   pub head : getD places (length es) 0 ≡ p % capacity file
   pub header : trail .header (length es) ≡ headerOf e
 
-header-there : (img : List ℕ) (file p : ℕ) (e : Elem) → Holds img (capacity file) p e
-    → headerAt img file (p % capacity file) ≡ Parsed.Header (headerOf e)
-header-there img file p e h = header-in img file (p % capacity file) ∙ header-mod (capacity file) img p ∙ h .header
-
 only : (i : ℕ) → i < 1 → i ≡ 0
 only i l = omega arith
 
@@ -101,7 +97,7 @@ pub back-over : (es : List Elem) (img : List ℕ) (file p : ℕ) (e : Elem) → 
 back-over [] img file p e c r b = record {
   trail = record {
     header = λ i. headerOf e;
-    valid = λ i l. rw (only i l) (header-there img file p e (c .0));
+    valid = λ i l. rw (only i l) (header-there img file p (p % capacity file) e refl (c .0));
     falls = λ i l. rw (only i l) (omega arith);
     linked = λ i l. absurd (omega arith);
   };
@@ -117,7 +113,7 @@ back-over (f ∷ es) img file p e c r b =
     let link : k .trail .header (length es) .«prev_pos» ≡ 8192 + p % size =
     ap (λ (h : V2ElementHeader). h .«prev_pos») (k .header) ∙ b .0 in
     let falls : e .seq + suc (length es) ≡ lastOf f es .seq = omega (arith, rising-last f es (r .1), r .0) in
-    let valid = header-there img file p e (c .0) in
+    let valid = header-there img file p (p % capacity file) e refl (c .0) in
     record {
       trail = trail-more img file ps (lastOf f es .seq) (p % size) (headerOf e) (k .trail) (length es) (k .many) link valid falls;
       many = length-append ps (p % size ∷ []) ∙ omega (arith, k .many);

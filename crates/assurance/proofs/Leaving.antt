@@ -3,43 +3,19 @@
 use mathlib.Core.Path.{_≡_, refl, sym, ap, _∙_}
 use mathlib.Core.Logic.{inl, inr}
 use mathlib.Core.List.{List, [], _∷_, _++_}
-use Prim.Native.Nat.{ℕ, zero, suc, _+_, _%_, _^_, _<_}
+use Prim.Native.Nat.{ℕ, zero, suc, _+_, _%_}
 use native.Mathlib.Nat.{add-zero, add-assoc}
 use lib.ListN.{length, take, drop}
-use borrow.Author.Tests.{ltb-true}
-use Rattle.refusal.specs.declared.Verdict.the-variants as Verdict
-use Rattle.refusal.proofs.Laws.{granted, refused}
 use Rattle.ring.proofs.Places.{add-same}
 use Rattle.queue.specs.Element.{capacity}
 use Rattle.queue.specs.declared.state.QueueFile.{QueueFile}
-use Rattle.writing.specs.Work.{Work, done}
-use Rattle.writing.specs.Commit.{judgeNumbers}
-use Rattle.writing.specs.declared.answer.Changed.{Changed}
-use Rattle.writing.specs.declared.answer.Changed.the-variants.{Queue}
 use Rattle.assurance.specs.Held.{Held}
 use Rattle.assurance.specs.Linked.{Empty}
 use Rattle.assurance.specs.Changes.{Leaves}
 use Rattle.assurance.proofs.Chain.{Elem, span, total}
 use Rattle.assurance.proofs.Laid.{Laid}
 use Rattle.assurance.proofs.Bridge.{laid-linked, heldAt, heldAll, laid-elements, empty-elements}
-use Rattle.assurance.proofs.GrownState.{same-queue}
 use Rattle.assurance.proofs.Vacant.{Vacant, vacant-empty}
-
--- ---- answers
-
--- the work that is done is what the call answers
-pub done-same : (w : Work) (q : QueueFile) (img : List ℕ) → done w ≡ (Queue q, img) → w ≡ (q, img)
-done-same w q img e =
-    ap (λ (x : QueueFile). (x, w .1)) (same-queue (ap (λ (x : Changed × List ℕ). x .0) e)) ∙ ap (λ (x : Changed × List ℕ). (q, x .1)) e
-
--- the numbers that are granted so many commits and elements
-pub numbers-granted : (q : QueueFile) (commits elements : ℕ) → judgeNumbers q commits elements ≡ Verdict.Granted
-    → (q .format .generation + commits < 2 ^ 63) × (q .format .«next_seq» + elements < 2 ^ 63)
-unfolding judgeNumbers
-numbers-granted q commits elements e =
-    let a = granted _ _ _ _ refused e in
-    let b = granted _ _ _ _ refused (a .1) in
-    (ltb-true _ _ (a .0), ltb-true _ _ (b .0))
 
 -- ---- what is left
 

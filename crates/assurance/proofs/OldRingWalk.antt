@@ -1,5 +1,5 @@
 -- Growth's walk in the old ring refuses no linked queue: it asks less than the walk of strict opening. Assumes nothing.
-use mathlib.Core.Path.{_≡_, sym, ap, _∙_}
+use mathlib.Core.Path.{_≡_, refl, sym, ap, _∙_}
 use mathlib.Core.List.{List, [], _∷_}
 use Prim.Native.Nat.{ℕ, zero, suc, _+_, _%_, _≤_}
 use native.Mathlib.Nat.{mod-eq-of-lt, mod-add-mod}
@@ -11,7 +11,7 @@ use Rattle.refusal.proofs.Laws.{pass}
 use Rattle.queue.specs.Element.{capacity}
 use Rattle.writing.specs.Growth.{walkFrom, walkOldRing}
 use Rattle.assurance.specs.Growth.{LinkedPassesWalk}
-use Rattle.assurance.proofs.Chain.{Elem, span, total, Holds, Chain, lastFrom, header-in, header-mod}
+use Rattle.assurance.proofs.Chain.{Elem, span, total, Holds, Chain, lastFrom, header-there}
 use Rattle.assurance.proofs.Bridge.{linked-laid}
 
 -- one element
@@ -20,7 +20,7 @@ step : (left : ℕ) (img : List ℕ) (file last before p spans : ℕ) (e : Elem)
     ≡ walkFrom img file last left (p % capacity file) ((p + span e) % capacity file) (spans + span e)
 unfolding walkFrom
 step left img file last before p spans e h l =
-    rw (header-in img file (p % capacity file) ∙ header-mod (capacity file) img p ∙ h .header)
+    rw (header-there img file p (p % capacity file) e refl h)
     (pass _ _ _ (le-leb (spans + span e) (capacity file) l)
     ∙ ap (λ (x : ℕ). walkFrom img file last left (p % capacity file) x (spans + span e)) (mod-add-mod p (capacity file) (span e)))
 

@@ -3,7 +3,7 @@ use mathlib.Core.Path.{_≡_, refl, sym, ap, _∙_}
 use mathlib.Core.Bool.{Bool}
 use mathlib.Core.List.{List, [], _∷_}
 use Prim.Native.Nat.{ℕ, zero, suc, _+_, _-_, _%_, _≤_, _<_}
-use native.Mathlib.Nat.{mod-eq-of-lt, mod-lt, mod-mod, mod-add-mod}
+use native.Mathlib.Nat.{mod-eq-of-lt, mod-lt, mod-add-mod}
 use native.Mathlib.Omega.{arith}
 use lib.ListN.{length}
 use borrow.Author.Tests.{le-leb, lt-leb, lt-ltb, ne-eqb}
@@ -11,9 +11,8 @@ use Rattle.refusal.specs.declared.Verdict as Verdicts
 use Rattle.refusal.specs.declared.Verdict.the-variants as Verdict
 use Rattle.refusal.proofs.Laws.{pass}
 use Rattle.format.specs.declared.element.ParsedHeader.{ParsedHeader}
-use Rattle.format.specs.declared.element.ParsedHeader.the-variants as Parsed
 use Rattle.queue.specs.Answers.{onHeader, onVerdict}
-use Rattle.queue.specs.Element.{capacity, elementHere, headerAt, payloadAt, footerVerdict}
+use Rattle.queue.specs.Element.{capacity, elementHere, payloadAt, footerVerdict}
 use Rattle.queue.specs.State.{sound}
 use Rattle.queue.specs.Peek.{fitPeek, checkPeek, judgePeek}
 use Rattle.queue.specs.Iter.{cursorAt, stepHere, stepOn, judgeStep}
@@ -25,9 +24,9 @@ use Rattle.queue.specs.declared.iter.Stepped.the-variants as Stepped
 use Rattle.writing.proofs.Choices.{chosen, left-out}
 use Rattle.assurance.specs.Held.{sequencesOf}
 use Rattle.assurance.specs.Reading.{upFrom, LinkedIsOneRun, firstPayload, PeekGivesFirst, handedStep, handed, IterationGivesAll}
-use Rattle.assurance.proofs.Chain.{Elem, headerOf, span, total, Holds, Chain, Rising, header-in}
+use Rattle.assurance.proofs.Chain.{Elem, headerOf, span, total, Holds, Chain, Rising, header-there}
 use Rattle.assurance.proofs.Laid.{Laid, laid-sound, laid-some}
-use Rattle.assurance.proofs.TrailWalk.{holds-same}
+use Rattle.assurance.proofs.TrailWalk.{payload-there, footer-there}
 use Rattle.assurance.proofs.Bridge.{linked-laid, heldAll, laid-elements}
 
 -- ---- one run
@@ -47,22 +46,15 @@ linked-is-one-run img q w =
     ∙ ap (λ (x : ℕ). upFrom x (suc (length (u .es)))) s
     ∙ ap (upFrom (q .format .«next_seq» - q .«elem_cnt»)) (sym (k .count))
 
--- ---- an element that stands, as the state knows it
-
-footer-stands : (img : List ℕ) (file p : ℕ) (e : Elem) → Holds img (capacity file) p e
-    → footerVerdict img file (elementHere p (headerOf e)) ≡ Verdict.Granted
-unfolding footerVerdict payloadAt
-footer-stands img file p e h = rw (h .payload) (h .footer)
-
-payload-stands : (img : List ℕ) (file p : ℕ) (e : Elem) → Holds img (capacity file) p e → payloadAt img file (elementHere p (headerOf e)) ≡ e .payload
-unfolding payloadAt
-payload-stands img file p e h = h .payload
-
 -- ---- peek
 
 module _ (img : List ℕ) (q : QueueFile) (e : Elem) (es : List Elem) (k : Laid img q e es) where
   first-known : q .first ≡ elementHere (q .first .pos) (headerOf e)
   first-known = rw (← k .first-len, ← k .first-seq)
+
+  -- its place is reduced
+  first-place : q .first .pos ≡ q .first .pos % capacity (q .«file_len»)
+  first-place = sym (mod-eq-of-lt {n = q .first .pos} {m = capacity (q .«file_len»)} (k .first-low))
 
   peeked : (room : ℕ) → q .first .len ≤ room → judgePeek q img room ≡ Peeked.Payload (q .first .len)
   unfolding judgePeek fitPeek
@@ -72,7 +64,8 @@ module _ (img : List ℕ) (q : QueueFile) (e : Elem) (es : List Elem) (k : Laid 
       ∙ sym (left-out _ _ _ (ne-eqb (q .«elem_cnt») 0 (laid-some img q e es k)))
       ∙ pass _ _ _ (le-leb (q .first .len) room l) in
       let foot : footerVerdict img (q .«file_len») (q .first) ≡ Verdict.Granted =
-      ap (footerVerdict img (q .«file_len»)) first-known ∙ footer-stands img (q .«file_len») (q .first .pos) e (k .holds .0) in
+      ap (footerVerdict img (q .«file_len»)) first-known
+      ∙ footer-there img (q .«file_len») (q .first .pos) (q .first .pos) e first-place (k .holds .0) in
       ap (checkPeek img q) fits ∙ ap (λ (v : Verdicts.Verdict). onVerdict Peeked.Refused v (Peeked.Payload (q .first .len))) foot
 
 pub peek-gives-first : PeekGivesFirst
@@ -81,7 +74,7 @@ peek-gives-first img q room w l =
     let k = u .laid in (
       peeked img q (u .e) (u .es) k room l,
       ap (payloadAt img (q .«file_len»)) (first-known img q (u .e) (u .es) k)
-          ∙ payload-stands img (q .«file_len») (q .first .pos) (u .e) (k .holds .0)
+          ∙ payload-there img (q .«file_len») (q .first .pos) (q .first .pos) (u .e) (first-place img q (u .e) (u .es) k) (k .holds .0)
           ∙ ap firstPayload (sym (laid-elements img q (u .e) (u .es) k)),
     )
 
@@ -96,16 +89,15 @@ module _ (img : List ℕ) (q : QueueFile) (room : ℕ) (ok : sound q (length img
       → judgeStep q img (cursorAt index (p % size)) room ≡ Stepped.Element (stepHere (q .«file_len») (cursorAt index (p % size)) (headerOf e))
   unfolding judgeStep
   one index p e h l i =
-      let w = holds-same img size p (p % size) e (sym (mod-mod p size)) h in
-      let a : headerAt img (q .«file_len») (p % size) ≡ Parsed.Header (headerOf e) = header-in img (q .«file_len») (p % size) ∙ w .header in
       let low : p % size < size = mod-lt p ring in
       pass _ _ _ ok
       ∙ sym (left-out _ _ _ (lt-leb (q .«elem_cnt») index i))
       ∙ pass _ _ _ (lt-ltb (p % size) size low)
-      ∙ ap (λ (d : ParsedHeader). onHeader Stepped.Refused d (stepOn img (q .«file_len») (cursorAt index (p % size)) room)) a
+      ∙ ap (λ (d : ParsedHeader). onHeader Stepped.Refused d (stepOn img (q .«file_len») (cursorAt index (p % size)) room))
+      (header-there img (q .«file_len») p (p % size) e refl h)
       ∙ pass _ _ _ (le-leb (length (e .payload)) room (omega arith))
       ∙ ap (λ (v : Verdicts.Verdict). onVerdict Stepped.Refused v (Stepped.Element (stepHere (q .«file_len») (cursorAt index (p % size)) (headerOf e))))
-      (footer-stands img (q .«file_len») (p % size) e w)
+      (footer-there img (q .«file_len») p (p % size) e refl h)
 
   ended : (index p : ℕ) → q .«elem_cnt» ≤ index → judgeStep q img (cursorAt index p) room ≡ Stepped.End
   unfolding judgeStep
@@ -119,10 +111,9 @@ module _ (img : List ℕ) (q : QueueFile) (room : ℕ) (ok : sound q (length img
       ap (λ (a : Answer.Stepped). handedStep img (q .«file_len») a (handed q img room steps)) (ended index (p % size) (omega arith))
   all (e ∷ es) index p zero c l i s = absurd (omega arith)
   all (e ∷ es) index p (suc steps) c l i s =
-      let w = holds-same img size p (p % size) e (sym (mod-mod p size)) (c .0) in
       ap (λ (a : Answer.Stepped). handedStep img (q .«file_len») a (handed q img room steps)) (one index p e (c .0) (omega arith) (omega arith))
       ∙ rw (
-        payload-stands img (q .«file_len») (p % size) e w,
+        payload-there img (q .«file_len») p (p % size) e refl (c .0),
         mod-add-mod p size (span e),
         all es (index + 1) (p + span e) steps (c .1) (omega arith) (omega arith) (omega arith),
       )

@@ -4,7 +4,7 @@ use mathlib.Core.List.{List, [], _∷_}
 use Prim.Native.Nat.{ℕ, zero, suc, _+_, _-_, _<_, _≤_}
 use native.Mathlib.Nat.{sub-zero, zero-add}
 use native.Mathlib.Omega.{arith}
-use borrow.Author.Tests.{le-leb, eq-eqb, ne-eqb, leb-true, eqb-true}
+use borrow.Author.Tests.{le-leb, eq-eqb, ne-eqb, leb-true}
 use lib.ListN.{length, getD}
 use Rattle.refusal.specs.Demand.{demand}
 use Rattle.refusal.specs.declared.Refusal.{Refusal}
@@ -14,44 +14,29 @@ use Rattle.ring.proofs.Places.{ring-there}
 use Rattle.format.specs.declared.element.V2ElementHeader.{V2ElementHeader}
 use Rattle.format.specs.declared.element.ParsedHeader.{ParsedHeader}
 use Rattle.format.specs.declared.element.ParsedHeader.the-variants as Parsed
-use Rattle.queue.specs.Answers.{onHeader, onPlace}
-use Rattle.queue.specs.Element.{elementHere, headerAt, inSequence}
+use Rattle.queue.specs.Answers.{onPlace}
+use Rattle.queue.specs.Element.{elementHere, headerAt}
 use Rattle.queue.specs.Recover.{goBack, recoverFrom}
 use Rattle.queue.specs.declared.element.Element.{Element}
 use Rattle.queue.specs.declared.recover.Recovered.{Recovered}
 use Rattle.queue.specs.declared.recover.Recovered.the-variants.{Head, Refused}
+use Rattle.queue.proofs.Headers.{on-sequence}
 use Rattle.queue.proofs.RecoverLaws.{recover-opens}
 use Rattle.assurance.specs.Recovery.{Trail, Recovery, RecoveryIsExact, TrailIsUnique}
 
 -- a refusal is not a head
-differ : {r : Refusal} {e : Element} → Refused r ≡ Head e → ⊥
-differ q = let z : _≡_ {A = ℕ} 0 1 = cc in omega arith
+pub no-head : {r : Refusal} {e : Element} → Refused r ≡ Head e → ⊥
+no-head q = let z : _≡_ {A = ℕ} 0 1 = cc in omega arith
 
 -- ---- what a step that came to a head has passed
-
--- a header that is valid and in sequence
-record Passed (x : ParsedHeader) (seq : ℕ) (next : V2ElementHeader → Recovered) (e : Element) : Type 0 where
-  pub header : V2ElementHeader
-  pub valid : x ≡ Parsed.Header header
-  pub in-sequence : header .seq ≡ seq
-  pub goes : next header ≡ Head e
-
-passed : (x : ParsedHeader) (seq : ℕ) (next : V2ElementHeader → Recovered) (e : Element) →
-    onHeader Refused (inSequence seq x) next ≡ Head e → Passed x seq next e
-passed (Parsed.Refused r) seq next e q = absurd (differ q)
-passed (Parsed.Header h) seq next e q =
-    keep (λ (d : ParsedHeader). onHeader Refused d next ≡ Head e → Passed (Parsed.Header h) seq next e) _ _ _
-    (λ z. absurd (differ z))
-    (λ b z. record { header = h; valid = refl; in-sequence = eqb-true _ _ b; goes = z })
-    q
 
 -- a backlink that names a place
 went-back : (link : ℕ) (next : ℕ → Recovered) (e : Element) → goBack link next ≡ Head e → (8192 ≤ link) × (next (link - 8192) ≡ Head e)
 went-back link next e q =
     keep (λ (d : Placed). onPlace Refused d next ≡ Head e → (8192 ≤ link) × (next (link - 8192) ≡ Head e)) _ _ _
-    (λ z. absurd (differ z))
+    (λ z. absurd (no-head z))
     (λ b z. (leb-true 8192 link b, z))
-    (granted _ _ _ _ differ q .1)
+    (granted _ _ _ _ no-head q .1)
 
 -- a header before those of a trail
 abbrev before : V2ElementHeader → (ℕ → V2ElementHeader) → ℕ → V2ElementHeader
@@ -140,8 +125,8 @@ module _ (img : List ℕ) (file : ℕ) where
   sound : (ts n s t p : ℕ) (e : Element) → t ≡ ts - s → recoverFrom img file ts (suc n) s p ≡ Head e → Walked ts s t p n e
   unfolding recoverFrom
   sound ts zero s t p e i h =
-      let g = granted _ _ _ _ differ h in
-      let j = passed (headerAt img file p) (ts - s) _ e (g .1) in
+      let g = granted _ _ _ _ no-head h in
+      let j = on-sequence Refused (headerAt img file p) (ts - s) _ (Head e) (λ r. no-head) (g .1) in
       record {
         within = leb-true s ts (g .0);
         rest = [];
@@ -150,8 +135,8 @@ module _ (img : List ℕ) (file : ℕ) where
         answer = cc (j .goes);
       }
   sound ts (suc n) s t p e i h =
-      let g = granted _ _ _ _ differ h in
-      let j = passed (headerAt img file p) (ts - s) _ e (g .1) in
+      let g = granted _ _ _ _ no-head h in
+      let j = on-sequence Refused (headerAt img file p) (ts - s) _ (Head e) (λ r. no-head) (g .1) in
       let prev : ℕ = j .header .«prev_pos» in
       let b = went-back prev _ e (j .goes) in
       let far : 8192 ≤ prev = b .0 in
@@ -172,7 +157,7 @@ module _ (img : List ℕ) (file : ℕ) where
 -- a walk that comes to a head has gone over a trail
 found : (img : List ℕ) (file tail ts n : ℕ) (e : Element) → recoverFrom img file ts n 0 tail ≡ Head e → Recovery img file tail ts n e
 unfolding recoverFrom
-found img file tail ts zero e h = absurd (differ h)
+found img file tail ts zero e h = absurd (no-head h)
 found img file tail ts (suc n) e h =
     let w = sound img file ts n 0 ts tail e (sym (sub-zero ts)) h in
     let m : length (w .rest) ≡ n = w .many in

@@ -1,34 +1,34 @@
 -- What growth does to the elements of a chain, step by step: the ring's start read on behind its end, and every header with its backlink
 -- anew, one after the other. Assumes nothing.
 use mathlib.Core.Path.{_≡_, refl, sym, ap, _∙_, subst}
-use mathlib.Core.Bool.{Bool, true, false, not, cond, _&&_, and-eq-true-iff, and-false}
+use mathlib.Core.Bool.{Bool, true, false, not, cond, and-eq-true-iff, and-false}
 use mathlib.Core.List.{List, [], _∷_}
-use Prim.Native.Nat.{ℕ, zero, suc, _+_, _-_, _%_, _^_, _≤_, _<_}
+use Prim.Native.Nat.{ℕ, suc, _+_, _-_, _%_, _^_, _≤_, _<_}
 use native.Mathlib.Nat.{mod-eq-of-lt, mod-add-mod}
 use native.Mathlib.Decide.{decLt}
 use native.Mathlib.Omega.{arith}
 use lib.ListN.{length}
 use lib.Dec.{ltb, eqb}
 use borrow.Author.Tests.{ltb-true, lt-ltb, le-ltb, ne-eqb}
-use Rattle.ring.specs.Ring.{ringRead, ringWrite, ringAdd, relocated}
+use Rattle.ring.specs.Ring.{ringRead, ringWrite, relocated}
 use Rattle.ring.proofs.Places.{turn-high}
 use Rattle.ring.proofs.Reading.{read-ext}
 use Rattle.ring.proofs.Writing.{read-write, write-mod}
 use Rattle.ring.proofs.Relocating.{read-relocated}
-use Rattle.format.specs.Element.{elementSpan, encodeHeader, headerBytes, parseHeader, checkFooter}
+use Rattle.format.specs.Element.{encodeHeader, headerBytes, parseHeader, checkFooter}
 use Rattle.format.specs.declared.element.EncodedHeader.{EncodedHeader}
 use Rattle.format.specs.declared.element.V2ElementHeader.{V2ElementHeader}
 use Rattle.format.specs.declared.element.ParsedHeader.{ParsedHeader}
 use Rattle.format.specs.declared.element.ParsedHeader.the-variants.{Header}
 use Rattle.format.proofs.ElementLaws.{length-encodedHeader, header-granted, header-parse-encode}
-use Rattle.queue.specs.Element.{capacity, headerAt}
+use Rattle.queue.specs.Element.{capacity}
 use Rattle.queue.specs.declared.state.QueueFile.{QueueFile}
 use Rattle.writing.specs.Growth.{endOfLast}
 use Rattle.writing.specs.Expansion.{namesMoved, relinkedHeader, relinkStep, relinkFrom}
 use Rattle.writing.proofs.Choices.{either}
 use Rattle.writing.proofs.RelinkLaws.{length-relinked}
 use Rattle.assurance.specs.Growth.{moves, grownLink}
-use Rattle.assurance.proofs.Chain.{Elem, headerOf, span, total, lastOf, lastFrom, Rising, Backs, headerIn, header-in, header-mod, header-known, Holds, Chain, Agree, holds-frame, chain-frame, agree-behind, agree-ahead}
+use Rattle.assurance.proofs.Chain.{Elem, headerOf, span, total, lastOf, lastFrom, Rising, Backs, headerIn, header-there, header-known, Holds, Chain, Agree, holds-frame, chain-frame, agree-behind, agree-ahead}
 
 -- ---- the elements, once they are told of in the longer file
 
@@ -179,7 +179,7 @@ module _ (q : QueueFile) (n : ℕ) (m : moves q n ≡ true) where
   unfolding relinkFrom
   walk-step k img p e h =
       ap (λ (d : ParsedHeader). relinkStep n old end img (p % new) d (relinkFrom n old end k))
-      (header-in img n (p % new) ∙ header-mod new img p ∙ h .header)
+      (header-there img n p (p % new) e refl h)
       ∙ rw (one-mod img p (headerOf e), mod-add-mod p new (span e))
 
   walk-none : (img : List ℕ) (p : ℕ) → relinkFrom n old end 0 img p ≡ img

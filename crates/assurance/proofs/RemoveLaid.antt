@@ -3,9 +3,9 @@
 use mathlib.Core.Path.{_≡_, refl, sym, ap, _∙_, subst}
 use mathlib.Core.List.{List, [], _∷_}
 use Prim.Native.Nat.{ℕ, zero, suc, _+_, _-_, _%_, _^_, _≤_, _<_}
-use native.Mathlib.Nat.{mod-eq-of-lt, mod-lt, mod-mod, mod-add-mod, add-mod-right, add-zero, add-assoc, sub-zero}
+use native.Mathlib.Nat.{mod-eq-of-lt, mod-lt, mod-mod, mod-add-mod, add-zero, add-assoc, sub-zero}
 use native.Mathlib.Omega.{arith}
-use lib.ListN.{length, take, drop, replicate, length-replicate, take-append-drop}
+use lib.ListN.{take, drop, replicate, length-replicate, take-append-drop}
 use Rattle.ring.specs.Ring.{ringDistance, ringErase}
 use Rattle.ring.proofs.Writing.{length-write}
 use Rattle.format.specs.declared.element.ParsedHeader.{ParsedHeader}
@@ -20,9 +20,9 @@ use Rattle.writing.specs.Growth.{behind}
 use Rattle.writing.specs.Removal.{skipFrom, dropped, removedZeroed}
 use Rattle.writing.specs.declared.removal.Skipped.the-variants as Skipped
 use Rattle.writing.proofs.Choices.{either}
-use Rattle.assurance.proofs.Chain.{Elem, span, total, headerOf, headerIn, header-in, header-mod, Chain, chain-frame, agree-behind}
+use Rattle.assurance.proofs.Chain.{Elem, span, total, headerOf, header-there, chain-frame, agree-behind}
 use Rattle.assurance.proofs.ChainLists.{total-append, chain-same, backs-same, last-same}
-use Rattle.assurance.proofs.Laid.{Laid}
+use Rattle.assurance.proofs.Laid.{Laid, laid-with, distance-unrolled}
 use Rattle.assurance.proofs.CommitLaid.{committed-laid}
 use Rattle.assurance.proofs.AppendLaid.{LaidWork}
 
@@ -40,11 +40,7 @@ module _ (img : List ℕ) (q : QueueFile) (e f : Elem) (es : List Elem) (k : Lai
   second-place = rw (k .first-len)
 
   second-header : headerAt img (q .«file_len») (second .pos) ≡ Header (headerOf f)
-  second-header =
-      header-in img (q .«file_len») (second .pos)
-      ∙ ap (headerIn size img) second-place
-      ∙ header-mod size img (q .first .pos + span e)
-      ∙ k .holds .1 .0 .header
+  second-header = header-there img (q .«file_len») (q .first .pos + span e) (second .pos) f second-place (k .holds .1 .0)
 
   skip-on : (n : ℕ) → skipFrom img (q .«file_len») (suc n) (q .first) ≡ skipFrom img (q .«file_len») n second
   unfolding skipFrom
@@ -124,32 +120,6 @@ skip-laid (suc n) img q e (f ∷ es) k h =
 
 -- ---- their bytes become zero
 
--- another image of the same length in which the elements stand
-laid-image : (img img′ : List ℕ) (q : QueueFile) (e : Elem) (es : List Elem) → Laid img q e es → length img′ ≡ length img
-    → Chain img′ (capacity (q .«file_len»)) (q .first .pos) (e ∷ es) → Laid img′ q e es
-laid-image img img′ q e es k l c = record {
-  lengths = record {
-    start = k .lengths .start;
-    real = k .lengths .real;
-    inside = omega (arith, l, k .lengths .inside);
-    small = k .lengths .small;
-  };
-  numbers = k .numbers;
-  first-low = k .first-low;
-  last-low = k .last-low;
-  count = k .count;
-  holds = c;
-  fits = k .fits;
-  rising = k .rising;
-  backs = k .backs;
-  seqs = k .seqs;
-  first-len = k .first-len;
-  first-seq = k .first-seq;
-  last-place = k .last-place;
-  last-len = k .last-len;
-  last-seq = k .last-seq;
-}
-
 -- the d bytes before first, which are none of the elements'
 module _ (img : List ℕ) (q : QueueFile) (e : Elem) (es : List Elem) (from d : ℕ) (k : Laid img q e es)
     (there : (from + d) % capacity (q .«file_len») ≡ q .first .pos) (room : d + total (e ∷ es) ≤ capacity (q .«file_len»)) where
@@ -165,7 +135,7 @@ module _ (img : List ℕ) (q : QueueFile) (e : Elem) (es : List Elem) (from d : 
   erased-laid : Laid zeroed q e es
   erased-laid =
       let l = length-replicate {A = ℕ} d 0 in
-      laid-image img zeroed q e es k (length-write 8192 ring img from (replicate d 0))
+      laid-with img zeroed q e es (q .format) k refl (k .numbers .generation) (length-write 8192 ring img from (replicate d 0))
       (chain-same (e ∷ es) zeroed ring (from + d) (q .first .pos) same
       (chain-frame (e ∷ es) img zeroed ring ring (from + d) (omega arith)
       (agree-behind img ring from (replicate d 0) (from + d) (total (e ∷ es)) (omega (arith, l)) (omega (arith, room)))
@@ -175,15 +145,6 @@ module _ (img : List ℕ) (q : QueueFile) (e : Elem) (es : List Elem) (from d : 
 pub zeroed-state : (from to : ℕ) (w : Work) → removedZeroed from to w .0 ≡ w .0
 unfolding removedZeroed
 zeroed-state from to w = either (λ (v : Work). v .0 ≡ w .0) (w .0 .settings .«overwrite_on_remove») _ _ (λ _. refl) refl
-
--- the distance to a place less than a turn further, reduced, is what lies between
-distance-on : (size p d : ℕ) → p < size → d < size → ringDistance size p ((p + d) % size) ≡ d
-distance-on size p d h l =
-    rw (mod-eq-of-lt {n = p} {m = size} h)
-    (mod-add-mod (p + d) size (size - p)
-    ∙ ap (λ (x : ℕ). x % size) (let t : p + d + (size - p) ≡ d + size = omega arith in t)
-    ∙ add-mod-right d size
-    ∙ mod-eq-of-lt {n = d} {m = size} l)
 
 -- ---- both, with the commit between
 
@@ -207,7 +168,8 @@ module _ (img : List ℕ) (q : QueueFile) (e : Elem) (es : List Elem) (n : ℕ) 
       let size = capacity (q .«file_len») in
       let d : ringDistance size (q .first .pos) (r .to .pos) ≡ past =
       ap (ringDistance size (q .first .pos)) (r .place)
-      ∙ distance-on size (q .first .pos) past (k .first-low) (omega (arith, past-rest, k .fits)) in
+      ∙ distance-unrolled size (q .first .pos) (q .first .pos + past) (k .first-low) (omega arith) (omega (arith, past-rest, k .fits))
+      ∙ omega arith in
       either (λ (w : Work). LaidWork w (r .f) (r .fs)) (q .settings .«overwrite_on_remove») _ _
       (λ _. erased-laid _ _ (r .f) (r .fs) (q .first .pos) (ringDistance size (q .first .pos) (r .to .pos)) next-laid
       (rw d (sym (r .place)))

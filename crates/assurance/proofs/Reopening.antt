@@ -34,8 +34,9 @@ use Rattle.assurance.specs.Linked.{LinkedOrEmpty}
 use Rattle.assurance.specs.Reopening.{Stored, Current, StoredReopens, Committed, FreshIsCommitted, CommitIsCommitted, AddIsCommitted, RemoveIsCommitted, ClearIsCommitted, ClearStaysCurrent, GrowthStaysCurrent}
 use Rattle.assurance.proofs.Bridge.{linked-laid}
 use Rattle.assurance.proofs.LaidOpens.{laid-opens, empty-opens}
+use Rattle.assurance.proofs.CommitLaid.{length-slotStored}
 use Rattle.assurance.proofs.Fronts.{Fronts, front-all, upto-kept, state-kept}
-use Rattle.assurance.proofs.Slots.{length-stored, stored-current, zero-none, stored-elected, committed-stored}
+use Rattle.assurance.proofs.Slots.{stored-current, zero-none, stored-elected, committed-stored}
 use Rattle.assurance.proofs.Answered.{not-kept, done-work, verdict-work, count-work, skip-work}
 use Rattle.assurance.proofs.Changes.{commit-keeps-queue, remove-keeps-queue, clear-empties, fresh-is-empty}
 use Rattle.assurance.proofs.Adding.{add-keeps-queue}
@@ -61,7 +62,7 @@ sound-long q len s =
 -- a state whose slot was stored, with what follows
 module _ (q : QueueFile) (img img′ : List ℕ) (f : Fronts (slotStored q img) img′) (whole : LinkedOrEmpty img′ q) where
   still-sound : sound q (length img) ≡ true
-  still-sound = subst (λ (n : ℕ). sound q n ≡ true) (f .long ∙ length-stored q img) (whole-sound img′ q whole)
+  still-sound = subst (λ (n : ℕ). sound q n ≡ true) (f .long ∙ length-slotStored q img) (whole-sound img′ q whole)
 
   still-current : Current img′ q
   still-current =

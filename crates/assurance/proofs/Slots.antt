@@ -2,7 +2,7 @@
 use mathlib.Core.Path.{_≡_, refl, sym, ap, subst, _∙_}
 use mathlib.Core.Bool.{Bool, true, cond}
 use mathlib.Core.List.{List}
-use Prim.Native.Nat.{ℕ, zero, suc, _+_, _^_, _≤_, _<_}
+use Prim.Native.Nat.{ℕ, _+_, _^_, _≤_, _<_}
 use native.Mathlib.Decide.{decLt}
 use native.Mathlib.Omega.{arith}
 use lib.ListN.{length, getD, take, drop}
@@ -31,21 +31,18 @@ use Rattle.queue.specs.State.{sound}
 use Rattle.queue.specs.Opening.{triedSlot, checkedState, openState}
 use Rattle.queue.specs.declared.element.Element.{Element}
 use Rattle.queue.specs.declared.state.QueueFile.{QueueFile}
-use Rattle.queue.proofs.Sound.{sound-lengths, sound-numbers, first-lies, last-lies}
+use Rattle.queue.proofs.Sound.{sound-lengths, sound-numbers, by-count, first-lies, last-lies}
 use Rattle.queue.proofs.OpenLaws.{offset-low}
 use Rattle.writing.specs.Commit.{pointerTo, slotOf, slotStored, nextState}
+use Rattle.writing.proofs.CommitLaws.{pointer-none, pointer-some}
 use Rattle.assurance.specs.Reopening.{Stored, Current}
-use Rattle.assurance.proofs.LaidOpens.{pointer-none, pointer-some}
+use Rattle.assurance.proofs.CommitLaid.{length-slotStored}
 use Rattle.assurance.proofs.Fronts.{slotPart, part-same, Upto}
 
 abbrev active : QueueFile → HeaderSlot
 active q = q .format .«active_slot»
 
 -- ---- a slot that is stored
-
-pub length-stored : (q : QueueFile) (img : List ℕ) → length (slotStored q img) ≡ length img
-unfolding slotStored
-length-stored q img = length-sets img (slotOffset (active q)) (slotBytes (slotOf q))
 
 -- it is there
 part-stored : (img : List ℕ) (at : ℕ) (s : List ℕ) → at + length s ≤ length img → take (length s) (drop at (putAt img at s)) ≡ s
@@ -129,10 +126,6 @@ unfolding triedSlot
 tried-there img real which h = pass _ _ _ (le-leb (slotOffset which + 56) real (omega (arith, h, offset-low which)))
 
 -- ---- a sound state's slot is possible
-
-by-count : {A : Type 0} (n : ℕ) → (n ≡ 0 → A) → ((n ≡ 0 → ⊥) → A) → A
-by-count zero none some = none refl
-by-count (suc n) none some = some (λ (e : suc n ≡ 0). omega (arith, e))
 
 module _ (q : QueueFile) (len : ℕ) (s : sound q len ≡ true) where
   abbrev pointer : Element → ℕ
@@ -231,7 +224,7 @@ module _ (q : QueueFile) (img : List ℕ) (s : sound q (length img) ≡ true)
   unfolding openState
   stored-elected =
       let l = sound-lengths q (length img) s in
-      pass _ _ _ (le-leb (q .«real_len») (length (slotStored q img)) (omega (arith, l .inside, length-stored q img)))
+      pass _ _ _ (le-leb (q .«real_len») (length (slotStored q img)) (omega (arith, l .inside, length-slotStored q img)))
       ∙ pass _ _ _ (lt-ltb _ _ (l .small))
       ∙ ap (λ (e : Election.Elected). checkedState e (q .«real_len»))
       (elected (active q) (slotStored q img) (q .«real_len») (slotOf q) mine earlier)

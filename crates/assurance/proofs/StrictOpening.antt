@@ -4,7 +4,7 @@ use mathlib.Core.Path.{_≡_, refl, sym, ap, _∙_, subst}
 use mathlib.Core.Logic.{_⊎_, inl, inr}
 use mathlib.Core.Bool.{Bool, true, cond}
 use mathlib.Core.List.{List}
-use Prim.Native.Nat.{ℕ, zero, suc, _-_, _≤_}
+use Prim.Native.Nat.{ℕ, suc, _-_, _≤_}
 use native.Mathlib.Nat.{mod-eq-of-lt}
 use native.Mathlib.Omega.{arith}
 use lib.ListN.{length, getD}
@@ -12,7 +12,7 @@ use borrow.Author.Tests.{eq-eqb, ne-eqb}
 use Rattle.refusal.specs.declared.Refusal.{Refusal}
 use Rattle.refusal.specs.declared.Verdict as Answer
 use Rattle.refusal.specs.declared.Verdict.the-variants as Verdict
-use Rattle.refusal.proofs.Laws.{pass, granted, keep}
+use Rattle.refusal.proofs.Laws.{pass, granted}
 use Rattle.header.specs.declared.SlotData.{SlotData}
 use Rattle.ring.specs.declared.place.Placed.{Placed}
 use Rattle.ring.specs.declared.place.Placed.the-variants as Placed
@@ -37,25 +37,17 @@ use Rattle.queue.specs.declared.recover.Recovered.the-variants as Recovered
 use Rattle.queue.specs.declared.opening.Opened.{Opened}
 use Rattle.queue.specs.declared.opening.Opened.the-variants.{Queue, Refused}
 use Rattle.queue.proofs.AnswerLaws.{on-granted}
-use Rattle.queue.proofs.Sound.{sound-ends}
+use Rattle.queue.proofs.Headers.{on-sequence}
+use Rattle.queue.proofs.Sound.{sound-ends, by-count}
+use Rattle.queue.proofs.OpenLaws.{no-queue}
 use Rattle.assurance.specs.Linked.{Stands, Empty}
 use Rattle.assurance.specs.StrictOpening.{WholeTrail, StrictOpeningIsExact}
-use Rattle.assurance.proofs.Chain.{headerOf, header-in}
-use Rattle.assurance.proofs.Recovery.{recovery-is-exact}
+use Rattle.assurance.proofs.Chain.{headerOf, header-there}
+use Rattle.assurance.proofs.Recovery.{no-head, recovery-is-exact}
 use Rattle.assurance.proofs.TrailWalk.{same-header, Found, trail-found}
-
-no-queue : {r : Refusal} {q : QueueFile} → Refused r ≡ Queue q → ⊥
-no-queue e = let z : _≡_ {A = ℕ} 0 1 = cc in omega arith
-
-no-head : {r : Refusal} {e : Element} → Recovered.Refused r ≡ Recovered.Head e → ⊥
-no-head e = let z : _≡_ {A = ℕ} 0 1 = cc in omega arith
 
 same-queue : (q q′ : QueueFile) → Queue q ≡ Queue q′ → q ≡ q′
 same-queue q q′ e = cc
-
-is-none : (n : ℕ) → Dec (n ≡ 0)
-is-none zero = yes refl
-is-none (suc n) = no (λ z. omega arith)
 
 -- ---- plain opening: the ends of what it answers stand
 
@@ -107,9 +99,9 @@ on-place img (Placed.At x) next k = k x
 in-sequence : (img : List ℕ) (file p seq : ℕ) (d : ParsedHeader) → headerAt img file p ≡ d → (next : V2ElementHeader → Opened)
     → ((h : V2ElementHeader) → headerAt img file p ≡ Parsed.Header h → EndsStand img (next h))
     → EndsStand img (onHeader Refused (inSequence seq d) next)
-in-sequence img file p seq (Parsed.Refused r) a next k = refused-ends img r
-in-sequence img file p seq (Parsed.Header h) a next k =
-    keep (λ (d : ParsedHeader). EndsStand img (onHeader Refused d next)) _ _ _ (refused-ends img _) (λ b. k h a)
+in-sequence img file p seq d a next k q e n =
+    let s = on-sequence Refused d seq next (Queue q) (λ r. no-queue) e in
+    k (s .header) (a ∙ s .valid) q (s .goes) n
 
 from-head : (img : List ℕ) (r : Answered.Recovered) (next : Element → Opened) → ((e : Element) → r ≡ Recovered.Head e → EndsStand img (next e))
     → EndsStand img (fromHead r next)
@@ -129,16 +121,14 @@ ends-stand img q d n =
 
 opened-ends : (img : List ℕ) (real : ℕ) (settings : Settings) (o : Election.Elected) → EndsStand img (fromState img real settings o)
 opened-ends img real settings (Elected.Refused r) q e n = absurd (no-queue e)
-opened-ends img real settings (Elected.Slot o) q e n = go (is-none (o .slot .«element_count»))
-  where
-    go : Dec (o .slot .«element_count» ≡ 0) → Standing img (q .«file_len») (q .first) × Standing img (q .«file_len») (q .last)
-    go (yes y) =
-        let w : builtQueue o real settings ≡ q =
-        same-queue _ _ (sym (ap (λ (b : Bool). cond b (Queue (builtQueue o real settings)) (openEnds img (builtQueue o real settings) (o .slot))) (eq-eqb _ _ y)) ∙ e) in
-        absurd (n (ap (λ (x : QueueFile). x .«elem_cnt») (sym w) ∙ y))
-    go (no x) =
-        ends-stand img (builtQueue o real settings) (o .slot) x q
-        (sym (ap (λ (b : Bool). cond b (Queue (builtQueue o real settings)) (openEnds img (builtQueue o real settings) (o .slot))) (ne-eqb _ _ x)) ∙ e) n
+opened-ends img real settings (Elected.Slot o) q e n =
+    let b = builtQueue o real settings in
+    let answer : Bool → Opened = λ none. cond none (Queue b) (openEnds img b (o .slot)) in
+    by-count (o .slot .«element_count»)
+    (λ y.
+    let w : b ≡ q = same-queue _ _ (sym (ap answer (eq-eqb _ _ y)) ∙ e) in
+    absurd (n (ap (λ (x : QueueFile). x .«elem_cnt») (sym w) ∙ y)))
+    (λ x. ends-stand img b (o .slot) x q (sym (ap answer (ne-eqb _ _ x)) ∙ e) n)
 
 pub open-stands : (img : List ℕ) (real : ℕ) (settings : Settings) → EndsStand img (openQueue img real settings)
 unfolding openQueue
@@ -207,7 +197,8 @@ whole img real settings q n k =
     trail-found (q .«elem_cnt» - 1) img file (q .last .pos) start firstLink 0 first
     (rw (m, mod-eq-of-lt {n = first} {m = capacity file} low) t) in
     let same : Parsed.Header (record { «payload_len» = q .first .len; seq = q .first .seq; «prev_pos» = ends .0 .back }) ≡ Parsed.Header (headerOf (f .e)) =
-    sym (ends .0 .stands) ∙ header-in img file first ∙ f .holds .0 .header in
+    sym (ends .0 .stands)
+    ∙ header-there img file first first (f .e) (sym (mod-eq-of-lt {n = first} {m = capacity file} low)) (f .holds .0) in
     let back : ends .0 .back ≡ f .e .back = ap (λ (h : V2ElementHeader). h .«prev_pos») (same-header _ _ same) in
     record {
       linked = record {
@@ -226,14 +217,9 @@ pub strict-opening-is-exact : StrictOpeningIsExact
 strict-opening-is-exact img real settings q = (there, back)
   where
     there : openStrictly img real settings ≡ Queue q → (openQueue img real settings ≡ Queue q) × (WholeTrail img q ⊎ Empty img q)
-    there e = go (is-none (q .«elem_cnt»))
-      where
-        k : Asked img q (openQueue img real settings)
-        k = strict-asked img real settings q e
-
-        go : Dec (q .«elem_cnt» ≡ 0) → (openQueue img real settings ≡ Queue q) × (WholeTrail img q ⊎ Empty img q)
-        go (yes y) = (k .plain, inr (record { sound = k .sound; none = y }))
-        go (no x) = (k .plain, inl (whole img real settings q x k))
+    there e =
+        let k = strict-asked img real settings q e in
+        (k .plain, by-count (q .«elem_cnt») (λ z. inr (record { sound = k .sound; none = z })) (λ n. inl (whole img real settings q n k)))
 
     back : openQueue img real settings ≡ Queue q → WholeTrail img q ⊎ Empty img q → openStrictly img real settings ≡ Queue q
     back o (inr z) =

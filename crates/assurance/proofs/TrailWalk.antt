@@ -1,16 +1,14 @@
 -- The walk of strict opening passes exactly where a chain stands: both directions, with the places unrolled. Assumes nothing.
 use mathlib.Core.Path.{_≡_, refl, sym, ap, _∙_}
-use mathlib.Core.Bool.{Bool, true, false}
 use mathlib.Core.List.{List, [], _∷_}
 use Prim.Native.Nat.{ℕ, zero, suc, _+_, _%_, _≤_}
 use native.Mathlib.Nat.{mod-mod, mod-add-mod}
 use native.Mathlib.Omega.{arith}
 use lib.ListN.{length}
-use lib.Dec.{leb, eqb}
+use lib.Dec.{leb}
 use borrow.Author.Tests.{eqb-true, leb-true, eq-eqb, le-leb}
 use Rattle.refusal.specs.Table.{unsound}
 use Rattle.refusal.specs.Demand.{demand}
-use Rattle.refusal.specs.declared.Refusal.{Refusal}
 use Rattle.refusal.specs.declared.Verdict as Answer
 use Rattle.refusal.specs.declared.Verdict.the-variants as Verdict
 use Rattle.refusal.proofs.Laws.{pass, granted, refused}
@@ -26,7 +24,8 @@ use Rattle.queue.specs.Answers.{onHeader, onVerdict}
 use Rattle.queue.specs.Element.{capacity, elementHere, headerAt, inSequence, payloadAt, footerVerdict}
 use Rattle.queue.specs.Strict.{linkedElement, strictElement, trailFrom}
 use Rattle.queue.proofs.AnswerLaws.{on-granted}
-use Rattle.assurance.proofs.Chain.{Elem, headerOf, span, total, Holds, Chain, Rising, Backs, lastFrom, headerIn, header-in, header-mod}
+use Rattle.queue.proofs.Headers.{on-sequence}
+use Rattle.assurance.proofs.Chain.{Elem, headerOf, span, total, Holds, Chain, Rising, Backs, lastFrom, headerIn, header-in, header-mod, header-there}
 
 -- ---- a place is as good as any other that is the same in the ring
 
@@ -41,6 +40,19 @@ holds-same img size p r e s h = record {
       ∙ h .footer;
 }
 
+-- what the state knows of an element that stands, at the reduced place r
+module _ (img : List ℕ) (file p r : ℕ) (e : Elem) (s : r ≡ p % capacity file) (h : Holds img (capacity file) p e) where
+  there : Holds img (capacity file) r e
+  there = holds-same img (capacity file) p r e (sym (mod-mod p (capacity file)) ∙ ap (λ (x : ℕ). x % capacity file) (sym s)) h
+
+  pub payload-there : payloadAt img file (elementHere r (headerOf e)) ≡ e .payload
+  unfolding payloadAt
+  payload-there = there .payload
+
+  pub footer-there : footerVerdict img file (elementHere r (headerOf e)) ≡ Verdict.Granted
+  unfolding footerVerdict payloadAt
+  footer-there = rw (there .payload) (there .footer)
+
 -- ---- one element
 
 -- what an element that passes has
@@ -50,35 +62,23 @@ record Passed (img : List ℕ) (file p seq link : ℕ) (h : V2ElementHeader) : T
   pub linked : h .«prev_pos» ≡ link
   pub footer : footerVerdict img file (elementHere p h) ≡ Verdict.Granted
 
-on-demand : (b : Bool) (r : Refusal) (k : V2ElementHeader) (next : V2ElementHeader → ParsedHeader) (h : V2ElementHeader)
-    → onHeader Parsed.Refused (demand b (Parsed.Refused r) (Parsed.Header k)) next ≡ Parsed.Header h
-    → (b ≡ true) × (next k ≡ Parsed.Header h)
-unfolding demand
-on-demand true r k next h e = (refl, e)
-on-demand false r k next h e = absurd (no-header e)
-
 pub same-header : (k h : V2ElementHeader) → Parsed.Header k ≡ Parsed.Header h → k ≡ h
 same-header k h e = cc
-
-passed-header : (img : List ℕ) (file p seq link : ℕ) (h : V2ElementHeader) (d : ParsedHeader) → headerAt img file p ≡ d
-    → onHeader Parsed.Refused (inSequence seq d) (linkedElement img file p link) ≡ Parsed.Header h → Passed img file p seq link h
-passed-header img file p seq link h (Parsed.Refused r) a e = absurd (no-header e)
-passed-header img file p seq link h (Parsed.Header k) a e =
-    let s = on-demand (eqb (k .seq) seq) _ k (linkedElement img file p link) h e in
-    let l = granted _ _ _ _ no-header (s .1) in
-    let f = on-granted Parsed.Refused (footerVerdict img file (elementHere p k)) _ _ (λ r. no-header) (l .1) in
-    let i : k ≡ h = same-header k h (f .1) in
-    record {
-      header = a ∙ ap (λ (x : V2ElementHeader). Parsed.Header x) i;
-      starts = ap (λ (x : V2ElementHeader). x .seq) (sym i) ∙ eqb-true (k .seq) seq (s .0);
-      linked = ap (λ (x : V2ElementHeader). x .«prev_pos») (sym i) ∙ eqb-true (k .«prev_pos») link (l .0);
-      footer = ap (λ (x : V2ElementHeader). footerVerdict img file (elementHere p x)) (sym i) ∙ f .0;
-    }
 
 passed : (img : List ℕ) (file p seq link : ℕ) (h : V2ElementHeader) → strictElement img file p seq link ≡ Parsed.Header h
     → Passed img file p seq link h
 unfolding strictElement
-passed img file p seq link h e = passed-header img file p seq link h (headerAt img file p) refl e
+passed img file p seq link h e =
+    let s = on-sequence Parsed.Refused (headerAt img file p) seq (linkedElement img file p link) (Parsed.Header h) (λ r. no-header) e in
+    let l = granted _ _ _ _ no-header (s .goes) in
+    let f = on-granted Parsed.Refused (footerVerdict img file (elementHere p (s .header))) _ _ (λ r. no-header) (l .1) in
+    let i : s .header ≡ h = same-header (s .header) h (f .1) in
+    record {
+      header = s .valid ∙ ap (λ (x : V2ElementHeader). Parsed.Header x) i;
+      starts = ap (λ (x : V2ElementHeader). x .seq) (sym i) ∙ s .in-sequence;
+      linked = ap (λ (x : V2ElementHeader). x .«prev_pos») (sym i) ∙ eqb-true _ _ (l .0);
+      footer = ap (λ (x : V2ElementHeader). footerVerdict img file (elementHere p x)) (sym i) ∙ f .0;
+    }
 
 -- the element that it is
 abbrev pub elemAt : List ℕ → ℕ → ℕ → V2ElementHeader → Elem
@@ -200,13 +200,12 @@ trail-found (suc k) img file last seq link spans p t =
 
 strict-one : (img : List ℕ) (file p : ℕ) (e : Elem) → Holds img (capacity file) p e
     → strictElement img file (p % capacity file) (e .seq) (e .back) ≡ Parsed.Header (headerOf e)
-unfolding strictElement footerVerdict payloadAt
+unfolding strictElement
 strict-one img file p e h =
     let size : ℕ = capacity file in
-    let w = holds-same img size p (p % size) e (sym (mod-mod p size)) h in
-    let a : headerAt img file (p % size) ≡ Parsed.Header (headerOf e) = header-in img file (p % size) ∙ w .header in
+    let a = header-there img file p (p % size) e refl h in
     let s : inSequence (e .seq) (Parsed.Header (headerOf e)) ≡ Parsed.Header (headerOf e) = pass _ _ _ (eq-eqb (e .seq) (e .seq) refl) in
-    let f : footerVerdict img file (elementHere (p % size) (headerOf e)) ≡ Verdict.Granted = rw (w .payload) (w .footer) in
+    let f = footer-there img file p (p % size) e refl h in
     ap (λ (d : ParsedHeader). onHeader Parsed.Refused (inSequence (e .seq) d) (linkedElement img file (p % size) (e .back))) a
     ∙ ap (λ (d : ParsedHeader). onHeader Parsed.Refused d (linkedElement img file (p % size) (e .back))) s
     ∙ pass _ _ _ (eq-eqb (e .back) (e .back) refl)

@@ -117,7 +117,7 @@ state-known img real o e =
 abbrev Keeps : QueueFile → Opened → Type 0
 Keeps q a = (q′ : QueueFile) → a ≡ Queue q′ → q′ ≡ withEnds q (q′ .first) (q′ .last)
 
-no-queue : {r : Refusal} {q : QueueFile} → Refused r ≡ Queue q → ⊥
+pub no-queue : {r : Refusal} {q : QueueFile} → Refused r ≡ Queue q → ⊥
 no-queue e = let z : _≡_ {A = ℕ} 0 1 = cc in omega arith
 
 keeps-refused : (q : QueueFile) (r : Refusal) → Keeps q (Refused r)

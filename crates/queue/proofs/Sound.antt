@@ -1,10 +1,10 @@
 -- What a sound state is known to be, for those who work on one. Assumes nothing.
-use mathlib.Core.Path.{_≡_, ap, sym, _∙_}
+use mathlib.Core.Path.{_≡_, refl, ap, sym, _∙_}
 use mathlib.Core.Bool.{Bool, true, not, cond, _&&_, and-eq-true-iff}
-use Prim.Native.Nat.{ℕ, _^_, _≤_, _<_}
+use Prim.Native.Nat.{ℕ, zero, suc, _^_, _≤_, _<_}
 use native.Mathlib.Omega.{arith}
 use lib.Dec.{eqb}
-use borrow.Author.Tests.{ltb-true, leb-true, ne-eqb, eqb-false, not-true}
+use borrow.Author.Tests.{ltb-true, leb-true, lt-ltb, le-leb, eq-eqb, ne-eqb, eqb-false, not-true}
 use Rattle.format.specs.Element.{elementSpan}
 use Rattle.queue.specs.Element.{capacity, Lies}
 use Rattle.queue.specs.State.{endsUsed, soundLengths, soundNumbers, noEnds, soundEnds, sound}
@@ -25,6 +25,10 @@ lengths-known q len e =
     let b = and-eq-true-iff _ _ .0 (a .1) in
     let d = and-eq-true-iff _ _ .0 (b .1) in
     record { start = leb-true _ _ (a .0); real = leb-true _ _ (b .0); inside = leb-true _ _ (d .0); small = ltb-true _ _ (d .1) }
+
+pub lengths-sound : (q : QueueFile) (len : ℕ) → Lengths q len → soundLengths q len ≡ true
+unfolding soundLengths
+lengths-sound q len l = rw (le-leb _ _ (l .start), le-leb _ _ (l .real), le-leb _ _ (l .inside), lt-ltb _ _ (l .small))
 
 pub sound-lengths : (q : QueueFile) (len : ℕ) → sound q len ≡ true → Lengths q len
 unfolding sound
@@ -69,6 +73,22 @@ sound-ends q len e n =
     let b = and-eq-true-iff (soundNumbers q) (cond (eqb (q .«elem_cnt») 0) (noEnds q) (soundEnds q)) .0 a .1 in
     ends-known q (sym (ap (λ (t : Bool). cond t (noEnds q) (soundEnds q)) (ne-eqb _ _ n)) ∙ b)
 
+-- ---- where there are none
+
+pub sound-empty : (q : QueueFile) (len : ℕ) → sound q len ≡ true → q .«elem_cnt» ≡ 0 → noEnds q ≡ true
+unfolding sound
+sound-empty q len e z =
+    let a = and-eq-true-iff (soundLengths q len) (soundNumbers q && cond (eqb (q .«elem_cnt») 0) (noEnds q) (soundEnds q)) .0 e .1 in
+    let b = and-eq-true-iff (soundNumbers q) (cond (eqb (q .«elem_cnt») 0) (noEnds q) (soundEnds q)) .0 a .1 in
+    sym (ap (λ (t : Bool). cond t (noEnds q) (soundEnds q)) (eq-eqb _ _ z)) ∙ b
+
+-- a count is 0 or it is not
+pub by-count : {A : Type 0} (n : ℕ) → (n ≡ 0 → A) → ((n ≡ 0 → ⊥) → A) → A
+by-count zero none some = none refl
+by-count (suc n) none some = some (λ (e : suc n ≡ 0). omega (arith, e))
+
+-- ---- both ends lie in the ring, where there are elements
+
 -- there is a ring, since an end has a place in it
 pub first-lies : (q : QueueFile) (len : ℕ) → sound q len ≡ true → (q .«elem_cnt» ≡ 0 → ⊥) → Lies len (q .«file_len») (q .first)
 first-lies q len e n =
@@ -110,6 +130,16 @@ numbers-known q e =
       generation = ltb-true _ _ (d .0);
       count = ltb-true _ _ (d .1);
     }
+
+pub numbers-sound : (q : QueueFile) → Numbers q → soundNumbers q ≡ true
+unfolding soundNumbers
+numbers-sound q n =
+    rw (
+      ne-eqb (q .format .«next_seq») 0 (λ z. omega (arith, n .next-some)),
+      lt-ltb _ _ (n .next-small),
+      lt-ltb _ _ (n .generation),
+      lt-ltb _ _ (n .count),
+    )
 
 pub sound-numbers : (q : QueueFile) (len : ℕ) → sound q len ≡ true → Numbers q
 unfolding sound

@@ -1,4 +1,4 @@
--- The check sequence of 32 bits of ITU-T Recommendation V.42, 8.1.1.6.2, by polynomials over the integers modulo 2, as the text has it.
+-- The check sequence of 32 bits of ITU-T Recommendation V.42, 8.1.1.6.2, by polynomials over the integers modulo 2, as it is known.
 -- Two remainders of division by the generator are added, and each coefficient of the sum is exchanged, 0 for 1 and 1 for 0:
 --   a) that of x^k (x^31 + x^30 + .. + x + 1), where the message has k bits;
 --   b) that of x^32 times the message.

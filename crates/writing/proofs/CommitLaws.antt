@@ -1,27 +1,19 @@
--- A sound state can be stored, and a state that is granted a commit is sound. Assumes nothing.
-use mathlib.Core.Path.{_≡_, refl, sym, ap, _∙_}
-use mathlib.Core.Bool.{Bool, true, cond, _&&_, and-eq-true-iff}
-use Prim.Native.Nat.{ℕ, zero, suc}
+-- A sound state can be stored, a state that is granted a commit is sound, and what a pointer is. Assumes nothing.
+use mathlib.Core.Path.{_≡_, ap}
+use mathlib.Core.Bool.{Bool, true, cond, and-eq-true-iff}
+use Prim.Native.Nat.{ℕ, _+_, _^_, _<_}
 use native.Mathlib.Omega.{arith}
-use lib.Dec.{eqb}
-use borrow.Author.Tests.{eq-eqb, eqb-true}
+use borrow.Author.Tests.{ltb-true, eq-eqb, ne-eqb, eqb-true}
 use Rattle.refusal.specs.declared.Verdict.the-variants as Verdict
 use Rattle.refusal.proofs.Laws.{granted, refused}
 use Rattle.queue.specs.Element.{isEmptyElement}
-use Rattle.queue.specs.State.{soundLengths, soundNumbers, noEnds, soundEnds, sound}
+use Rattle.queue.specs.State.{noEnds, sound}
 use Rattle.queue.specs.declared.element.Element.{Element}
 use Rattle.queue.specs.declared.state.QueueFile.{QueueFile}
-use Rattle.queue.proofs.Sound.{sound-numbers, first-lies, last-lies}
-use Rattle.writing.specs.Commit.{judgeCommit, Storable}
+use Rattle.queue.proofs.Sound.{sound-numbers, sound-empty, by-count, first-lies, last-lies}
+use Rattle.writing.specs.Commit.{pointerTo, judgeNumbers, judgeCommit, Storable}
 
--- ---- a sound state without elements has no ends
-
-sound-empty : (q : QueueFile) (len : ℕ) → sound q len ≡ true → q .«elem_cnt» ≡ 0 → noEnds q ≡ true
-unfolding sound
-sound-empty q len e z =
-    let a = and-eq-true-iff (soundLengths q len) (soundNumbers q && cond (eqb (q .«elem_cnt») 0) (noEnds q) (soundEnds q)) .0 e .1 in
-    let b = and-eq-true-iff (soundNumbers q) (cond (eqb (q .«elem_cnt») 0) (noEnds q) (soundEnds q)) .0 a .1 in
-    sym (ap (λ (t : Bool). cond t (noEnds q) (soundEnds q)) (eq-eqb _ _ z)) ∙ b
+-- ---- a sound state without elements has no places
 
 empty-place : (e : Element) → isEmptyElement e ≡ true → e .pos ≡ 0
 unfolding isEmptyElement
@@ -48,11 +40,6 @@ some-storable q len e m =
     let l = last-lies q len e m in
     record { generation = omega (arith, n .generation); first = omega (arith, f .place, f .small); last = omega (arith, l .place, l .small) }
 
--- a count is 0 or it is not
-by-count : {A : Type 0} (n : ℕ) → (n ≡ 0 → A) → ((n ≡ 0 → ⊥) → A) → A
-by-count zero none some = none refl
-by-count (suc n) none some = some (λ (e : suc n ≡ 0). omega (arith, e))
-
 pub sound-storable : (q : QueueFile) (len : ℕ) → sound q len ≡ true → Storable q
 sound-storable q len e = by-count (q .«elem_cnt») (empty-storable q len e) (some-storable q len e)
 
@@ -64,3 +51,20 @@ commit-sound q len e = granted _ _ _ _ refused e .0
 
 pub commit-storable : (q : QueueFile) (len : ℕ) → judgeCommit q len ≡ Verdict.Granted → Storable q
 commit-storable q len e = sound-storable q len (commit-sound q len e)
+
+-- the numbers that are granted so many commits and elements
+pub numbers-granted : (q : QueueFile) (commits elements : ℕ) → judgeNumbers q commits elements ≡ Verdict.Granted
+    → (q .format .generation + commits < 2 ^ 63) × (q .format .«next_seq» + elements < 2 ^ 63)
+unfolding judgeNumbers
+numbers-granted q commits elements e =
+    let a = granted _ _ _ _ refused e in
+    let b = granted _ _ _ _ refused (a .1) in
+    (ltb-true _ _ (a .0), ltb-true _ _ (b .0))
+
+-- ---- pointers
+
+pub pointer-none : (n : ℕ) (e : Element) → n ≡ 0 → pointerTo n e ≡ 0
+pointer-none n e z = ap (λ (t : Bool). cond t 0 (8192 + e .pos)) (eq-eqb n 0 z)
+
+pub pointer-some : (n : ℕ) (e : Element) → (n ≡ 0 → ⊥) → pointerTo n e ≡ 8192 + e .pos
+pointer-some n e m = ap (λ (t : Bool). cond t 0 (8192 + e .pos)) (ne-eqb n 0 m)

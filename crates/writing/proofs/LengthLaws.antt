@@ -4,7 +4,7 @@ use mathlib.Core.Path.{_≡_, refl, sym, ap, _∙_}
 use mathlib.Core.Logic.{_⊎_, inl, inr}
 use mathlib.Core.Bool.{Bool, true, false, cond}
 use Prim.Native.Nat.{ℕ, zero, suc, _+_, _-_, _*_, _^_, _≤_, _<_}
-use native.Mathlib.Nat.{mul-zero, mul-one, mul-add, mul-assoc, add-zero, pow-suc, le-mul-of-pos-right}
+use native.Mathlib.Nat.{mul-zero, mul-one, mul-add, mul-sub, mul-assoc, add-zero, pow-suc, le-mul-of-pos-right}
 use native.Mathlib.Omega.{arith}
 use lib.Dec.{leb}
 use lib.Pow.{pow-pos, pow-add}
@@ -182,3 +182,12 @@ pub length-grows : (len rest want n : ℕ) → growLength len rest want ≡ Byte
 length-grows len rest want n e h =
     let f = found-length len rest want n e in
     twice-at-least (f .times) len rest want n (f .long) (f .room) h
+
+added : (len n times : ℕ) → n ≡ len * 2 ^ times → len * (2 ^ times - 1) ≡ n - len
+added len n times e = mul-sub len (2 ^ times) 1 ∙ rw (e, mul-one len)
+
+-- what was left and what it adds are enough
+pub length-room : (len rest want n : ℕ) → growLength len rest want ≡ Bytes n → want ≤ rest + (n - len)
+length-room len rest want n e =
+    let f = found-length len rest want n e in
+    omega (arith, added len n (f .times) (f .long), f .room)
