@@ -10,6 +10,7 @@ pub mod LaidRecovery
 pub mod StrictOpening
 pub mod Reading
 pub mod OpeningSamples
+pub mod ReadingSamples
 pub mod Answered
 pub mod CommitLaid
 pub mod GrownState
@@ -34,6 +35,8 @@ pub mod Slots
 pub mod Keeping
 pub mod Reopening
 pub mod FreshSample
+pub mod ReopeningSamples
 pub mod ProvedTable
 pub mod OneAnswer
 pub mod Refusals
+pub mod RefusalSamples

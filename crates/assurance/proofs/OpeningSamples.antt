@@ -80,7 +80,10 @@ trail-footers : Footers trailFile
 unfolding footerVerdict payloadAt ringRead demand crcOf bytesIn byteIn shifts shift
 trail-footers = record { first = refl; last = refl }
 
--- it is linked, and so opens strictly by the theorem
+pub trail-linked : Linked trailFile (twoFrom 1)
+trail-linked = two-linked trailFile 0 trail-parts trail-footers
+
+-- so it opens strictly by the theorem
 pub trail-opens-strictly : openStrictly trailFile 8280 settings ≡ Queue (twoFrom 1)
 trail-opens-strictly =
     strict-opening-is-exact trailFile 8280 settings (twoFrom 1) .1 (opened trailFile 1 0 trail-parts)

@@ -88,17 +88,17 @@ after-commit w v b whole c =
 at-once : (w : Work) → Behind w w
 at-once w = (refl, front-all (w .1))
 
-pub commit-committed : CommitIsCommitted
+pub commit-is-committed : CommitIsCommitted
 unfolding commitOf
-commit-committed img img′ q q′ l c e =
+commit-is-committed img img′ q q′ l c e =
     let d = verdict-work img q′ img′ (judgeCommit q (length img)) (committed (q, img)) e .1 in
     after-commit (q, img) (q′, img′) (subst (Behind (committed (q, img))) d (at-once _)) (commit-keeps-queue img img′ q q′ l e .whole) c
 
 -- ---- growth
 
-pub growth-current : GrowthStaysCurrent
+pub growth-stays-current : GrowthStaysCurrent
 unfolding expandOf
-growth-current img img′ q q′ span c e =
+growth-stays-current img img′ q q′ span c e =
     let j = judgeExpansion q (length img) span in
     let d = count-work img q′ img′ (checkGrowth q img j) (λ n. grown n (q, img)) e in
     let s = expansion-sound q (length img) span (d .bytes) (checked-planned q img j (d .bytes) (d .count)) in
@@ -106,9 +106,9 @@ growth-current img img′ q q′ span c e =
 
 -- ---- add
 
-pub add-committed : AddIsCommitted
+pub add-is-committed : AddIsCommitted
 unfolding addOf
-add-committed img img′ payload q q′ l c e =
+add-is-committed img img′ payload q q′ l c e =
     let j = judgeAdd q (length img) (length payload) in
     let step : ℕ → Work = λ n. appended payload (grown n (q, img)) in
     let d = count-work img q′ img′ (checkGrowth q img j) (λ n. committed (step n)) e in
@@ -138,9 +138,9 @@ removed-some q n img a h l k e =
     ∙ left-out (eqb n 0) _ _ (ne-eqb n 0 (λ z. omega (arith, h, z)))
     ∙ g
 
-pub remove-committed : RemoveIsCommitted
+pub remove-is-committed : RemoveIsCommitted
 unfolding removeSome
-remove-committed img img′ q q′ n l c h k e =
+remove-is-committed img img′ q q′ n l c h k e =
     let some = removed-some q n img (Queue q′, img′) h k (not-kept img q′ img′) e in
     let d = skip-work img q′ img′ (skipFrom img (q .«file_len») n (q .first)) (removeTo q n img) some in
     after-commit (dropped q n (d .element), img) (q′, img′) (removed-to q n img (d .element) q′ img′ (d .answer))
@@ -148,9 +148,9 @@ remove-committed img img′ q q′ n l c h k e =
 
 -- ---- clear
 
-pub clear-current : ClearStaysCurrent
+pub clear-stays-current : ClearStaysCurrent
 unfolding clearOf cleared committed
-clear-current img img′ q q′ e =
+clear-stays-current img img′ q q′ e =
     let w : Work = (nextState (emptied q), slotStored (nextState (emptied q)) img) in
     let d = verdict-work img q′ img′ (judgeCommit q (length img)) (cut (ringZeroed w)) e in
     let l = sound-long q (length img) (commit-sound q (length img) (d .0)) in
@@ -161,9 +161,9 @@ clear-current img img′ q q′ e =
     (upto-kept (w .1) (ringZeroed w .1) (w .0 .format .«active_slot») (w .0 .format .generation) (b .1)
     (stored-current (w .0) img (l .image))))
 
-pub clear-committed : ClearIsCommitted
+pub clear-is-committed : ClearIsCommitted
 unfolding clearOf cleared committed
-clear-committed img img′ q q′ c h e =
+clear-is-committed img img′ q q′ c h e =
     let w = committed (emptied q, img) in
     let d = verdict-work img q′ img′ (judgeCommit q (length img)) (cut (ringZeroed w)) e in
     let b = zeroed-behind w in
@@ -173,9 +173,9 @@ clear-committed img img′ q q′ c h e =
 
 -- ---- a fresh image
 
-pub fresh-committed : FreshIsCommitted
+pub fresh-is-committed : FreshIsCommitted
 unfolding freshOf
-fresh-committed img img′ n settings q′ e =
+fresh-is-committed img img′ n settings q′ e =
     let a = granted _ _ _ (Queue q′, img′) (not-kept img q′ img′ _) e in
     let b = granted _ _ _ (Queue q′, img′) (not-kept img q′ img′ _) (a .1) in
     let g = granted _ _ _ (Queue q′, img′) (not-kept img q′ img′ _) (b .1) in
