@@ -30,7 +30,7 @@ use Rattle.assurance.proofs.Vacant.{Vacant}
 
 -- ---- the element that was written
 
-pub length-element : (seq link : ℕ) (payload : List ℕ) → length (elementBytes seq link payload) ≡ elementSpan (length payload)
+length-element : (seq link : ℕ) (payload : List ℕ) → length (elementBytes seq link payload) ≡ elementSpan (length payload)
 length-element seq link payload =
     length-append (encodeHeader seq link (length payload) .bytes) (payload ++ footerBytes seq payload)
     ∙ omega (arith, length-encodedHeader seq link (length payload), length-append payload (footerBytes seq payload))

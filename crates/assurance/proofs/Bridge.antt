@@ -75,11 +75,6 @@ module _ (img : List ℕ) (q : QueueFile) (w : Linked img q) where
   pub linked-laid : Unrolled img q
   linked-laid = record { e = found .e; es = found .es; laid = unrolled-laid }
 
-  -- its first element has the backlink that was found there
-  pub linked-back : linked-laid .e .back ≡ w .first-back
-  unfolding linked-laid found
-  linked-back = found .linked
-
 -- ---- to the words
 
 module _ (img : List ℕ) (q : QueueFile) (e : Elem) (es : List Elem) (k : Laid img q e es) where

@@ -27,7 +27,7 @@ use Rattle.assurance.proofs.CommitLaid.{length-committed}
 use Rattle.assurance.proofs.Vacant.{Vacant}
 
 -- the state is empty and sound over the image
-abbrev pub VacantWork : Work → Type 0
+abbrev VacantWork : Work → Type 0
 VacantWork w = Vacant (w .0) (length (w .1))
 
 -- after a store too

@@ -35,7 +35,7 @@ use Rattle.assurance.proofs.Relinking.{grownElem, grownElems, grown-len
 -- ---- steps that leave a chain
 
 -- a commit stores before the ring
-pub committed-chain : (w : Work) (size p : ℕ) (es : List Elem) → Chain (w .1) size p es → Chain (committed w .1) size p es
+committed-chain : (w : Work) (size p : ℕ) (es : List Elem) → Chain (w .1) size p es → Chain (committed w .1) size p es
 unfolding committed
 committed-chain w size p es c =
     chain-frame es (w .1) (slotStored (nextState (w .0)) (w .1)) size size p (omega arith) (agree-stored (nextState (w .0)) (w .1) size p (total es)) c

@@ -38,7 +38,7 @@ abbrev pub commitsAt : QueueFile → ℕ → Bool
 commitsAt q n = moves q n && (ltb (q .last .pos) (q .first .pos) && q .settings .«overwrite_on_remove»)
 
 -- the state then
-abbrev pub grownState : QueueFile → ℕ → QueueFile
+abbrev grownState : QueueFile → ℕ → QueueFile
 grownState q n =
     record {
       «file_len» = cond (ltb (q .«file_len») n) n (q .«file_len»);
@@ -81,9 +81,6 @@ module _ (q : QueueFile) (img : List ℕ) (n : ℕ) where
 
   pub grown-first : grown n (q, img) .0 .first ≡ q .first
   grown-first = ap (λ (s : QueueFile). s .first) grown-state
-
-  pub grown-settings : grown n (q, img) .0 .settings ≡ q .settings
-  grown-settings = ap (λ (s : QueueFile). s .settings) grown-state
 
   next-by : (b : Bool) → cond b (nextFormat (q .format)) (q .format) .«next_seq» ≡ q .format .«next_seq»
   next-by true = refl

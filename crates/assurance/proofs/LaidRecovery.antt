@@ -72,17 +72,17 @@ module _ (img : List ℕ) (file : ℕ) (ps : List ℕ) (tailSeq p : ℕ) (h : V2
           let z : i ≡ m = omega (arith, x, l, longer, many) in
           rw (before i (omega (arith, l, longer)), place-behind (suc i) (omega (arith, x, l, longer)), z) link
 
-  pub trail-more : Trail img file (ps ++ (p ∷ [])) tailSeq
+  trail-more : Trail img file (ps ++ (p ∷ [])) tailSeq
   trail-more = record { header = headers; valid = valid-all; falls = falls-all; linked = linked-all }
 
-  pub more-last : trail-more .header (suc m) ≡ h
+  more-last : trail-more .header (suc m) ≡ h
   unfolding trail-more
   more-last = behind (suc m) (omega (arith, many))
 
 -- ---- the trail of a chain
 
 -- the trail of e and es, e at p: as many places as elements, from the last one's to that of e, whose header ends it
-pub record BackOver (img : List ℕ) (file p : ℕ) (e : Elem) (es : List Elem) (places : List ℕ) : Type 0 where
+record BackOver (img : List ℕ) (file p : ℕ) (e : Elem) (es : List Elem) (places : List ℕ) : Type 0 where
   pub trail : Trail img file places (lastOf e es .seq)
   pub many : length places ≡ suc (length es)
   pub tail : getD places 0 0 ≡ lastFrom p e es % capacity file
@@ -92,7 +92,7 @@ pub record BackOver (img : List ℕ) (file p : ℕ) (e : Elem) (es : List Elem) 
 only : (i : ℕ) → i < 1 → i ≡ 0
 only i l = omega arith
 
-pub back-over : (es : List Elem) (img : List ℕ) (file p : ℕ) (e : Elem) → Chain img (capacity file) p (e ∷ es) → Rising e es
+back-over : (es : List Elem) (img : List ℕ) (file p : ℕ) (e : Elem) → Chain img (capacity file) p (e ∷ es) → Rising e es
     → Backs (capacity file) p e es → BackOver img file p e es (placesBack (heldAll (capacity file) p (e ∷ es)))
 back-over [] img file p e c r b = record {
   trail = record {

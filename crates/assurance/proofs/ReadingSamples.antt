@@ -11,12 +11,12 @@ use Rattle.assurance.specs.Samples.{trailFile, twoFrom}
 use Rattle.assurance.proofs.Reading.{linked-is-one-run, peek-gives-first, iteration-gives-all}
 use Rattle.assurance.proofs.OpeningSamples.{trail-linked, trail-holds}
 
-trail-sequences : sequencesOf (elementsOf (twoFrom 1) trailFile) ≡ 1 ∷ 2 ∷ []
+pub trail-sequences : sequencesOf (elementsOf (twoFrom 1) trailFile) ≡ 1 ∷ 2 ∷ []
 trail-sequences = linked-is-one-run trailFile (twoFrom 1) trail-linked
 
-trail-peek : judgePeek (twoFrom 1) trailFile 0 ≡ Peeked.Payload 0
+pub trail-peek : judgePeek (twoFrom 1) trailFile 0 ≡ Peeked.Payload 0
 trail-peek = peek-gives-first trailFile (twoFrom 1) 0 trail-linked (omega arith) .0
 
-trail-iterates : handed (twoFrom 1) trailFile 88 2 (startOf (twoFrom 1))
+pub trail-iterates : handed (twoFrom 1) trailFile 88 2 (startOf (twoFrom 1))
     ≡ record { place = 0; seq = 1; back = 0; payload = [] } ∷ record { place = 44; seq = 2; back = 8192; payload = [] } ∷ []
 trail-iterates = iteration-gives-all trailFile (twoFrom 1) 88 2 trail-linked (omega arith) (omega arith) ∙ trail-holds

@@ -38,34 +38,34 @@ unfolding recoverHead recoverFrom hasRing demand
 recovers-two = rw (tail-header, first-header)
 
 -- the first one's backlink is asked for only where one more is wanted
-one-too-many : recoverHead two 8280 44 2 3 ≡ Refused (plain 18)
+pub one-too-many : recoverHead two 8280 44 2 3 ≡ Refused (plain 18)
 unfolding recoverHead recoverFrom hasRing demand
 one-too-many = rw (tail-header, first-header)
 
-other-sequence : recoverHead two 8280 44 3 2 ≡ Refused (sequenceMismatch 3 2)
+pub other-sequence : recoverHead two 8280 44 3 2 ≡ Refused (sequenceMismatch 3 2)
 unfolding recoverHead recoverFrom hasRing demand
 other-sequence = rw tail-header
 
-no-elements : recoverHead two 8280 44 2 0 ≡ Refused (plain 20)
+pub no-elements : recoverHead two 8280 44 2 0 ≡ Refused (plain 20)
 unfolding recoverHead recoverFrom hasRing demand
 no-elements = refl
 
 -- the image has 8280 bytes
-past-the-image : recoverHead two 8281 44 2 2 ≡ Refused (plain 28)
+pub past-the-image : recoverHead two 8281 44 2 2 ≡ Refused (plain 28)
 unfolding recoverHead hasRing demand
 past-the-image = refl
 
 -- the place is not reduced in the answer: 132 is 44 and a turn
-unreduced : recoverHead two 8280 132 2 1 ≡ Head (element 132 0 2)
+pub unreduced : recoverHead two 8280 132 2 1 ≡ Head (element 132 0 2)
 unfolding recoverHead recoverFrom headerAt hasRing ringRead demand crcOf bytesIn byteIn shifts shift
 unreduced = refl
 
 -- a header that crosses the ring's end is read whole, from the tail's place 36 and from the same a turn further
-across : (recoverHead turned 8280 36 2 2 ≡ Head (element 80 0 1)) × (recoverHead turned 8280 124 2 2 ≡ Head (element 80 0 1))
+pub across : (recoverHead turned 8280 36 2 2 ≡ Head (element 80 0 1)) × (recoverHead turned 8280 124 2 2 ≡ Head (element 80 0 1))
 unfolding recoverHead recoverFrom headerAt hasRing ringRead demand crcOf bytesIn byteIn shifts shift
 across = (refl, refl)
 
-low-backlink : recoverHead spoilt 8280 44 2 2 ≡ Refused (plain 19)
+pub low-backlink : recoverHead spoilt 8280 44 2 2 ≡ Refused (plain 19)
 unfolding recoverHead recoverFrom headerAt hasRing ringRead demand crcOf bytesIn byteIn shifts shift
 low-backlink = refl
 
@@ -87,7 +87,7 @@ linked (suc i) l = absurd (omega arith)
 abbrev trail : Trail two 8280 (44 ∷ 0 ∷ []) 2
 trail = record { header = headers; valid = valid; falls = falls; linked = linked }
 
-by-hand : Recovery two 8280 44 2 2 (element 0 0 1)
+pub by-hand : Recovery two 8280 44 2 2 (element 0 0 1)
 by-hand = record { places = 44 ∷ 0 ∷ []; many = refl; first = refl; trail = trail; answer = refl }
 
 -- ---- and by the theorem, both ways
@@ -96,8 +96,8 @@ length-two : 8280 ≤ length two
 unfolding demand
 length-two = omega arith
 
-by-theorem : Recovery two 8280 44 2 2 (element 0 0 1)
+pub by-theorem : Recovery two 8280 44 2 2 (element 0 0 1)
 by-theorem = recovery-is-exact two 8280 44 2 2 _ (omega arith) length-two (omega arith) .0 recovers-two
 
-recovers-again : recoverHead two 8280 44 2 2 ≡ Head (element 0 0 1)
+pub recovers-again : recoverHead two 8280 44 2 2 ≡ Head (element 0 0 1)
 recovers-again = recovery-is-exact two 8280 44 2 2 _ (omega arith) length-two (omega arith) .1 by-hand

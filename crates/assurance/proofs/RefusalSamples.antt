@@ -21,46 +21,46 @@ use Rattle.script.specs.Hex.{isDash, isHex, unhex, bytesOf}
 use Rattle.script.specs.declared.hex.Bytes.the-variants as Bytes
 use Rattle.assurance.specs.ChangeSamples.{settings, none}
 
-fresh-refused : freshOf 8280 settings [] ≡ (Changed.Refused (plain 26), [])
+pub fresh-refused : freshOf 8280 settings [] ≡ (Changed.Refused (plain 26), [])
 unfolding demand freshOf
 fresh-refused = refl
 
-commit-refused : commitOf none [] ≡ (Changed.Refused (plain 28), [])
+pub commit-refused : commitOf none [] ≡ (Changed.Refused (plain 28), [])
 unfolding demand soundLengths sound judgeCommit commitOf
 commit-refused = refl
 
-add-refused : addOf none [] [] ≡ (Changed.Refused (plain 28), [])
+pub add-refused : addOf none [] [] ≡ (Changed.Refused (plain 28), [])
 unfolding demand soundLengths sound judgeAdd addOf
 add-refused = refl
 
-remove-refused : removeOf none 1 [] ≡ (Changed.Refused (plain 28), [])
+pub remove-refused : removeOf none 1 [] ≡ (Changed.Refused (plain 28), [])
 unfolding demand soundLengths sound removeOf
 remove-refused = refl
 
-clear-refused : clearOf none [] ≡ (Changed.Refused (plain 28), [])
+pub clear-refused : clearOf none [] ≡ (Changed.Refused (plain 28), [])
 unfolding demand soundLengths sound judgeCommit clearOf
 clear-refused = refl
 
-expand-refused : expandOf none 1 [] ≡ (Changed.Refused (plain 28), [])
+pub expand-refused : expandOf none 1 [] ≡ (Changed.Refused (plain 28), [])
 unfolding demand soundLengths sound judgeExpansion expandOf
 expand-refused = refl
 
-peek-refused : judgePeek none [] 0 ≡ Peeked.Refused (plain 28)
+pub peek-refused : judgePeek none [] 0 ≡ Peeked.Refused (plain 28)
 unfolding demand soundLengths sound fitPeek judgePeek
 peek-refused = refl
 
-step-refused : judgeStep none [] (startOf none) 0 ≡ Stepped.Refused (plain 28)
+pub step-refused : judgeStep none [] (startOf none) 0 ≡ Stepped.Refused (plain 28)
 unfolding demand soundLengths sound judgeStep
 step-refused = refl
 
-ring-refused : judgeRing 8192 0 8280 ≡ Verdict.Refused (plain 28)
+pub ring-refused : judgeRing 8192 0 8280 ≡ Verdict.Refused (plain 28)
 unfolding demand hasRing
 ring-refused = refl
 
-relocation-refused : judgeRelocation 8192 0 8280 44 ≡ Verdict.Refused (plain 28)
+pub relocation-refused : judgeRelocation 8192 0 8280 44 ≡ Verdict.Refused (plain 28)
 unfolding demand
 relocation-refused = refl
 
-bytes-refused : bytesOf [] [] ≡ (Bytes.Bad, [])
+pub bytes-refused : bytesOf [] [] ≡ (Bytes.Bad, [])
 unfolding isDash isHex unhex bytesOf
 bytes-refused = refl

@@ -114,7 +114,7 @@ module _ (q : QueueFile) (n : ℕ) (m : moves q n ≡ true) where
   end = endOfLast q
 
   -- where elements move, one is moved if its name tells so
-  pub link-moves : (back : ℕ) → grownLink q n back ≡ cond (namesMoved end back) (back + size) back
+  link-moves : (back : ℕ) → grownLink q n back ≡ cond (namesMoved end back) (back + size) back
   link-moves back = rw m
 
   -- the backlink to an element at the unrolled place p is moved to p itself

@@ -52,7 +52,7 @@ same-queue q q′ e = cc
 -- ---- plain opening: the ends of what it answers stand
 
 -- an element whose header is valid, with its length and sequence
-pub record Standing (img : List ℕ) (file : ℕ) (e : Element) : Type 0 where
+record Standing (img : List ℕ) (file : ℕ) (e : Element) : Type 0 where
   pub back : ℕ
   pub stands : Stands img file e back
 
@@ -130,7 +130,7 @@ opened-ends img real settings (Elected.Slot o) q e n =
     absurd (n (ap (λ (x : QueueFile). x .«elem_cnt») (sym w) ∙ y)))
     (λ x. ends-stand img b (o .slot) x q (sym (ap answer (ne-eqb _ _ x)) ∙ e) n)
 
-pub open-stands : (img : List ℕ) (real : ℕ) (settings : Settings) → EndsStand img (openQueue img real settings)
+open-stands : (img : List ℕ) (real : ℕ) (settings : Settings) → EndsStand img (openQueue img real settings)
 unfolding openQueue
 open-stands img real settings = opened-ends img real settings (openState img real)
 

@@ -81,12 +81,12 @@ passed img file p seq link h e =
     }
 
 -- the element that it is
-abbrev pub elemAt : List ℕ → ℕ → ℕ → V2ElementHeader → Elem
+abbrev elemAt : List ℕ → ℕ → ℕ → V2ElementHeader → Elem
 elemAt img size p h =
     record { seq = h .seq; back = h .«prev_pos»; payload = ringRead 8192 size img (p + 28) (h .«payload_len») }
 
 -- stands there
-pub elem-holds : (img : List ℕ) (file p : ℕ) (h : V2ElementHeader) → headerAt img file p ≡ Parsed.Header h
+elem-holds : (img : List ℕ) (file p : ℕ) (h : V2ElementHeader) → headerAt img file p ≡ Parsed.Header h
     → footerVerdict img file (elementHere p h) ≡ Verdict.Granted → Holds img (capacity file) p (elemAt img (capacity file) p h)
 unfolding footerVerdict payloadAt
 elem-holds img file p h a f =
