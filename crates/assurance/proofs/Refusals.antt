@@ -1,27 +1,24 @@
--- A refusal changes nothing, operation by operation: each refuses by `kept`, or by an answer that leaves what was there.
+-- A refusal changes nothing, function by function: each refuses by `kept`, or by an answer that leaves what was there.
 -- Assumes nothing.
-use Prim.Native.Nat.{ℕ}
-use mathlib.Core.Path.{_≡_, sym, ap}
+use Prim.Native.Nat.{ℕ, suc}
+use mathlib.Core.Path.{_≡_, refl, sym, ap}
 use mathlib.Core.Bool.{Bool, true, false, cond, _&&_, _||_}
 use mathlib.Core.List.{List, _++_}
 use native.Mathlib.Omega.{arith}
 use lib.ListN.{length, drop}
 use lib.Dec.{leb, eqb}
-use Rattle.refusal.specs.Verdict.{after}
+use Rattle.refusal.specs.Verdict.{verdictRefusal, after}
 use Rattle.refusal.specs.declared.Refusal.{Refusal}
-use Rattle.refusal.specs.declared.Verdict as Answer
-use Rattle.refusal.specs.declared.Verdict.the-variants as Verdict
+use Rattle.refusal.specs.declared.Verdict.{Verdict}
+use Rattle.refusal.specs.declared.Verdict.the-variants as Verdicts
 use Rattle.refusal.proofs.Laws.{keep}
+use Rattle.ring.specs.Ring.{judgeRing, judgeRelocation}
 use Rattle.queue.specs.Answers.{onVerdict}
-use Rattle.queue.specs.Element.{payloadAt}
-use Rattle.queue.specs.Peek.{peekedOutput}
-use Rattle.queue.specs.Iter.{steppedOutput, cursorAfter}
 use Rattle.queue.specs.declared.element.Element.{Element}
+use Rattle.queue.specs.declared.state.Settings.{Settings}
 use Rattle.queue.specs.declared.state.QueueFile.{QueueFile}
 use Rattle.queue.specs.declared.state.Count as Number
 use Rattle.queue.specs.declared.state.Count.the-variants as Count
-use Rattle.queue.specs.declared.peek.Peeked.{Peeked}
-use Rattle.queue.specs.declared.iter.Stepped.{Stepped}
 use Rattle.writing.specs.Work.{Work, done, kept, onCount}
 use Rattle.writing.specs.Commit.{judgeNumbers, judgeCommit, committed, commitOf}
 use Rattle.writing.specs.Growth.{checkGrowth}
@@ -36,9 +33,9 @@ use Rattle.writing.specs.declared.removal.Skipped as Walk
 use Rattle.writing.specs.declared.removal.Skipped.the-variants as Skipped
 use Rattle.writing.proofs.Choices.{either}
 use Rattle.script.specs.Hex.{isDash, isHex, unhex, bytesOf}
-use Rattle.script.specs.declared.hex.Bytes as Spelt
-use Rattle.script.specs.declared.hex.Bytes.the-variants as Bytes
-use Rattle.assurance.specs.Refusals.{FreshRefused, CommitRefused, AddRefused, RemoveRefused, ClearRefused, ExpandRefused, PeekRefused, StepRefused, Stays, ReadRefused, WriteRefused, EraseRefused, RelocateRefused, BytesRefused}
+use Rattle.script.specs.declared.hex.Bytes.{Bytes}
+use Rattle.script.specs.declared.hex.Bytes.the-variants as Spelt
+use Rattle.assurance.specs.Refusals.{RefusalsChangeNothing}
 
 -- ---- what changes a queue
 
@@ -57,9 +54,9 @@ done-keeps img w img′ r e = absurd (clash (ap (λ (a : Changed × List ℕ). a
     clash c = let z : _≡_ {A = ℕ} 0 1 = cc in omega arith
 
 -- what goes on from another answer keeps the image if it does where it goes on
-on-verdict : (img : List ℕ) (v : Answer.Verdict) (next : Changed × List ℕ) → Kept img next → Kept img (onVerdict (kept img) v next)
-on-verdict img Verdict.Granted next k = k
-on-verdict img (Verdict.Refused r) next k = kept-keeps img r
+on-verdict : (img : List ℕ) (v : Verdict) (next : Changed × List ℕ) → Kept img next → Kept img (onVerdict (kept img) v next)
+on-verdict img Verdicts.Granted next k = k
+on-verdict img (Verdicts.Refused r) next k = kept-keeps img r
 
 on-count : (img : List ℕ) (c : Number.Count) (next : ℕ → Work) → Kept img (onCount (kept img) c (λ n. done (next n)))
 on-count img (Count.Bytes n) next = done-keeps img (next n)
@@ -70,86 +67,93 @@ on-skipped : (img : List ℕ) (s : Walk.Skipped) (next : Element → Changed × 
 on-skipped img (Skipped.To e) next k = k e
 on-skipped img (Skipped.Refused r) next k = kept-keeps img r
 
-pub fresh-refused : FreshRefused
+fresh-keeps : (n : ℕ) (settings : Settings) (img : List ℕ) → Kept img (freshOf n settings img)
 unfolding freshOf
-fresh-refused n settings img =
+fresh-keeps n settings img =
     keep (Kept img) _ _ _ (kept-keeps img _) (λ a.
     keep (Kept img) _ _ _ (kept-keeps img _) (λ b.
     keep (Kept img) _ _ _ (kept-keeps img _) (λ c.
     done-keeps img _)))
 
-pub commit-refused : CommitRefused
+commit-keeps : (q : QueueFile) (img : List ℕ) → Kept img (commitOf q img)
 unfolding commitOf
-commit-refused q img = on-verdict img (judgeCommit q (length img)) _ (done-keeps img (committed (q, img)))
+commit-keeps q img = on-verdict img (judgeCommit q (length img)) _ (done-keeps img (committed (q, img)))
 
-pub add-refused : AddRefused
+add-keeps : (q : QueueFile) (payload img : List ℕ) → Kept img (addOf q payload img)
 unfolding addOf
-add-refused q payload img =
+add-keeps q payload img =
     on-count img (checkGrowth q img (judgeAdd q (length img) (length payload))) (λ n. committed (appended payload (grown n (q, img))))
 
-pub clear-refused : ClearRefused
+clear-keeps : (q : QueueFile) (img : List ℕ) → Kept img (clearOf q img)
 unfolding clearOf
-clear-refused q img = on-verdict img (judgeCommit q (length img)) _ (done-keeps img (cleared (q, img)))
+clear-keeps q img = on-verdict img (judgeCommit q (length img)) _ (done-keeps img (cleared (q, img)))
 
-some-refused : (q : QueueFile) (n : ℕ) (img : List ℕ) → Kept img (removeSome q n img)
+some-keeps : (q : QueueFile) (n : ℕ) (img : List ℕ) → Kept img (removeSome q n img)
 unfolding removeSome removeTo
-some-refused q n img =
+some-keeps q n img =
     on-skipped img (skipFrom img (q .«file_len») n (q .first)) (removeTo q n img) (λ e.
     on-verdict img (judgeNumbers q 1 0) _
     (done-keeps img (removedZeroed (q .first .pos) (e .pos) (committed (dropped q n e, img)))))
 
-pub remove-refused : RemoveRefused
+remove-keeps : (q : QueueFile) (n : ℕ) (img : List ℕ) → Kept img (removeOf q n img)
 unfolding removeOf
-remove-refused q n img =
+remove-keeps q n img =
     keep (Kept img) _ _ _ (kept-keeps img _) (λ a.
     either (Kept img) (eqb n 0) _ _ (λ b. done-keeps img (q, img))
     (either (Kept img) (eqb (q .«elem_cnt») 0) _ _ (λ b. done-keeps img (q, img))
-    (either (Kept img) (leb (q .«elem_cnt») n) _ _ (λ b. clear-refused q img)
-    (some-refused q n img))))
+    (either (Kept img) (leb (q .«elem_cnt») n) _ _ (λ b. clear-keeps q img)
+    (some-keeps q n img))))
 
-pub expand-refused : ExpandRefused
+expand-keeps : (q : QueueFile) (span : ℕ) (img : List ℕ) → Kept img (expandOf q span img)
 unfolding expandOf
-expand-refused q span img = on-count img (checkGrowth q img (judgeExpansion q (length img) span)) (λ n. grown n (q, img))
-
--- ---- what reads a queue into an output
-
-pub peek-refused : PeekRefused
-peek-refused q img out r e = ap (λ (p : Peeked). peekedOutput p (payloadAt img (q .«file_len») (q .first)) out) e
-
-pub step-refused : StepRefused
-step-refused q img out c r e =
-    (ap (λ (t : Stepped). steppedOutput t img (q .«file_len») out) e, ap (λ (t : Stepped). cursorAfter t c) e)
-
--- ---- the ring
-
-stays : (v : Answer.Verdict) (new old : List ℕ) → Stays v new old
-stays v new old r e = ap (λ (t : Answer.Verdict). after t new old) e
-
-pub read-refused : ReadRefused
-read-refused img buf file p = stays _ _ _
-
-pub write-refused : WriteRefused
-write-refused img buf file p = stays _ _ _
-
-pub erase-refused : EraseRefused
-erase-refused img file p n = stays _ _ _
-
-pub relocate-refused : RelocateRefused
-relocate-refused img old c = stays _ _ _
+expand-keeps q span img = on-count img (checkGrowth q img (judgeExpansion q (length img) span)) (λ n. grown n (q, img))
 
 -- ---- a byte string of the script
 
 -- the one answer that is bad keeps the output
 spelt : (b : Bool) (n : ℕ) (new out out′ : List ℕ) →
-    _≡_ {A = Spelt.Bytes × List ℕ} (cond b (Bytes.Of n, new) (Bytes.Bad, out)) (Bytes.Bad, out′) → out′ ≡ out
-spelt true n new out out′ e = absurd (clash (ap (λ (a : Spelt.Bytes × List ℕ). a .0) e))
+    _≡_ {A = Bytes × List ℕ} (cond b (Spelt.Of n, new) (Spelt.Bad, out)) (Spelt.Bad, out′) → out′ ≡ out
+spelt true n new out out′ e = absurd (clash (ap (λ (a : Bytes × List ℕ). a .0) e))
   where
-    clash : Bytes.Of n ≡ Bytes.Bad → ⊥
+    clash : Spelt.Of n ≡ Spelt.Bad → ⊥
     clash c = let z : _≡_ {A = ℕ} 0 1 = cc in omega arith
-spelt false n new out out′ e = sym (ap (λ (a : Spelt.Bytes × List ℕ). a .1) e)
+spelt false n new out out′ e = sym (ap (λ (a : Bytes × List ℕ). a .1) e)
 
-pub bytes-refused : BytesRefused
+bytes-keep : (word out out′ : List ℕ) → bytesOf word out ≡ (Spelt.Bad, out′) → out′ ≡ out
 unfolding bytesOf
-bytes-refused word out out′ =
+bytes-keep word out out′ =
     spelt ((isDash word || isHex word) && (leb (length (unhex word)) 262144 && leb (length (unhex word)) (length out)))
     (length (unhex word)) (unhex word ++ drop (length (unhex word)) out) out out′
+
+-- ---- a verdict's number
+
+numbered : (v : Verdict) (n : ℕ) (new old s : List ℕ) → (suc n ≡ verdictRefusal v .number) × (s ≡ after v new old) → s ≡ old
+numbered Verdicts.Granted n new old s p = absurd (omega (arith, p .0))
+numbered (Verdicts.Refused r) n new old s p = p .1
+
+-- ---- the theorem
+
+pub refusals-change-nothing : RefusalsChangeNothing
+refusals-change-nothing =
+    record {
+      «script::parse_bytes» = λ word out x s p. bytes-keep word out s (sym p);
+      «ring::read_at» = λ image «file_len» «logical_pos» buf x s p. p .1;
+      «ring::relocate» = λ image «orig_file_len» «moved_count» x s p. p .1;
+      «ring::write_at» = λ image «file_len» «logical_pos» buf x s p. p .1;
+      «ring::erase_at» = λ image «file_len» «logical_pos» len x s p. p .1;
+      «queue::QueueFile::peek_into» = λ self image out x s p. p .1;
+      «queue::QueueFile::step» = λ self image cursor out x s p. p .1;
+      the-cursor = λ cursor x. refl;
+      «writing::fresh» = λ image «file_len» settings x s p. fresh-keeps «file_len» settings image s x (sym p);
+      «writing::commit» = λ q image x s p. commit-keeps q image s x (sym p);
+      «writing::add» = λ q image payload x s p. add-keeps q payload image s x (sym p);
+      «writing::remove_n» = λ q image n x s p. remove-keeps q n image s x (sym p);
+      «writing::clear» = λ q image x s p. clear-keeps q image s x (sym p);
+      «writing::expand_if_necessary» = λ q image «data_len» x s p. expand-keeps q «data_len» image s x (sym p);
+      «exports::port_ring_read» = λ image «file_len» «logical_pos» buf n s p. numbered (judgeRing 8192 (length image) «file_len») n _ buf s p;
+      «exports::port_ring_write» = λ image «file_len» «logical_pos» buf n s p. numbered (judgeRing 8192 (length image) «file_len») n _ image s p;
+      «exports::port_ring_erase» = λ image «file_len» «logical_pos» len n s p. numbered (judgeRing 8192 (length image) «file_len») n _ image s p;
+      «exports::port_relocate» =
+          λ image «orig_file_len» «moved_count» n s p.
+          numbered (judgeRelocation 8192 (length image) «orig_file_len» «moved_count») n _ image s p;
+    }
