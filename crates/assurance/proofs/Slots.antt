@@ -87,7 +87,7 @@ pub stored-current : (q : QueueFile) (img : List ℕ) → 8192 ≤ length img �
 stored-current q img h d e =
     parsed-generation (slotOf q) d (ap parseSlot (sym (slot-there q img h)) ∙ e) (decLt (q .format .generation) (2 ^ 63))
 
-no-slot : {r : Refusal} {d : SlotData} → Refused r ≡ Slot d → ⊥
+pub no-slot : {r : Refusal} {d : SlotData} → Refused r ≡ Slot d → ⊥
 no-slot e = let z : _≡_ {A = ℕ} 0 1 = cc in omega arith
 
 -- every valid slot that p is has a generation before g
