@@ -13,7 +13,7 @@ use Rattle.writing.specs.Work.{Work}
 use Rattle.writing.specs.Growth.{judgeLength, checkGrowth}
 use Rattle.writing.specs.Expansion.{grown, judgeExpansion, expandOf, Expands}
 use Rattle.writing.proofs.LengthLaws.{no-bytes}
-use Rattle.writing.proofs.PlanLaws.{checked-planned, expansion-expands}
+use Rattle.writing.proofs.PlanLaws.{checked-planned, expansion-expands, expansion-sound}
 use Rattle.assurance.specs.Held.{elementsOf, sequencesOf, payloadsOf}
 use Rattle.assurance.specs.Linked.{Linked}
 use Rattle.assurance.specs.Growth.{grownElements, Grown, GrowthKeepsQueue, GrowthStaysLinked}
@@ -68,11 +68,12 @@ growth-keeps-queue img img′ q q′ span k e =
     let c = count-work img q′ img′ (checkGrowth q img j) (λ n. grown n (q, img)) e in
     let n = c .bytes in
     let b = checked-planned q img j n (c .count) in
+    let s = expansion-sound q (length img) span n b in
     let p = expansion-planned q (length img) span n b in
     let room : commitsAt q n ≡ true → q .format .generation + 1 < 2 ^ 63 =
-    λ t. rw (t) at (planned-numbers q (length img) span 0 0 n (k .sound) p .0) in
+    λ t. rw (t) at (planned-numbers q (length img) span 0 0 n s p .0) in
     subst (λ (w : Work). Grown img q (w .1) (w .0)) (c .work)
-    (grown-linked img q n k (planned-file q (length img) span 0 0 n (k .sound) p) (expansion-expands q (length img) span n b) room)
+    (grown-linked img q n k (planned-file q (length img) span 0 0 n s p) (expansion-expands q (length img) span n b) room)
 
 pub growth-stays-linked : GrowthStaysLinked
 growth-stays-linked img img′ q q′ span k e = growth-keeps-queue img img′ q q′ span k e .linked
