@@ -11,12 +11,13 @@ use Rattle.format.specs.declared.element.ParsedHeader.{ParsedHeader}
 use Rattle.queue.specs.Element.{capacity}
 use Rattle.queue.specs.Strict.{trailFrom}
 use Rattle.queue.specs.declared.state.QueueFile.{QueueFile}
+use Rattle.queue.proofs.Headers.{same-header}
 use Rattle.queue.proofs.Sound.{sound-lengths, sound-numbers, sound-ends}
 use Rattle.assurance.specs.Held.{Held, heldStep, heldFrom, elementsOf}
 use Rattle.assurance.specs.Linked.{Linked}
 use Rattle.assurance.proofs.Chain.{Elem, headerOf, span, Chain, lastOf, lastFrom, header-in, header-known, header-there, last-holds}
 use Rattle.assurance.proofs.Laid.{Laid, header-first, header-last, laid-sound}
-use Rattle.assurance.proofs.TrailWalk.{same-header, payload-there, Found, trail-found, chain-trail}
+use Rattle.assurance.proofs.TrailWalk.{payload-there, Found, trail-found, chain-trail}
 
 -- ---- from the words
 

@@ -36,7 +36,7 @@ slot =
 abbrev image : List ℕ
 image = slot ++ replicate 8224 0
 
-slot-bytes : slotBytes (slotOf (none)) ≡ slot
+slot-bytes : slotBytes (slotOf none) ≡ slot
 unfolding shift shifts byteIn bytesIn crcOf
 slot-bytes = refl
 
@@ -53,13 +53,13 @@ fresh-from n img h k l =
 zeros-first : (s : List ℕ) → s ≡ slot → putAt (replicate 8280 0) 0 s ≡ image
 zeros-first s e = ap (putAt (replicate 8280 0) 0) e ∙ sets-eq slot (replicate 8280 0) 0 (omega arith)
 
-fresh-leaves : (img : List ℕ) → length img ≡ 8280 → freshOf 8280 settings img ≡ (Queue (none), image)
+fresh-leaves : (img : List ℕ) → length img ≡ 8280 → freshOf 8280 settings img ≡ (Queue none, image)
 fresh-leaves img l =
     fresh-from 8280 img (omega arith) (omega arith) l
-    ∙ ap (λ (i : List ℕ). (Queue (none), i)) (zeros-first _ slot-bytes)
+    ∙ ap (λ (i : List ℕ). (Queue none, i)) (zeros-first _ slot-bytes)
 
 -- and opens
-pub fresh-opens : openQueue image 8280 settings ≡ Opened.Queue (none)
+pub fresh-opens : openQueue image 8280 settings ≡ Opened.Queue none
 unfolding openQueue openState triedSlot checkedState demand shift shifts byteIn bytesIn crcOf
 fresh-opens = refl
 

@@ -24,11 +24,11 @@ use Rattle.queue.specs.State.{soundLengths, soundNumbers, soundEnds, sound}
 use Rattle.queue.specs.Opening.{triedSlot, checkedState, openState, firstElement, openEnds, openQueue}
 use Rattle.queue.specs.Strict.{strictElement, trailFrom, checkTrail, openStrictly}
 use Rattle.queue.specs.declared.opening.Opened.the-variants.{Queue, Refused}
+use Rattle.queue.proofs.Headers.{same-header}
 use Rattle.assurance.specs.Held.{heldFrom, elementsOf}
 use Rattle.assurance.specs.Linked.{Linked}
 use Rattle.assurance.specs.StrictOpening.{WholeTrail}
 use Rattle.assurance.specs.Samples.{settings, trailFile, mixedFile, laterFile, twoFrom}
-use Rattle.assurance.proofs.TrailWalk.{same-header}
 use Rattle.assurance.proofs.StrictOpening.{strict-opening-is-exact}
 
 -- ---- of a file with two elements, once its parts are read

@@ -1,4 +1,5 @@
--- Each call that is told of can be refused: over an image of no bytes, which holds no file. Assumes nothing.
+-- Each call that is told of can be refused: over an image of no bytes, which holds no file; and a word of no bytes spells none.
+-- Assumes nothing.
 use mathlib.Core.Path.{_≡_, refl}
 use mathlib.Core.List.{[]}
 use Rattle.refusal.specs.Demand.{demand}

@@ -9,25 +9,20 @@ use native.Mathlib.Nat.{mod-eq-of-lt}
 use native.Mathlib.Omega.{arith}
 use lib.ListN.{length, getD}
 use borrow.Author.Tests.{eq-eqb, ne-eqb}
-use Rattle.refusal.specs.declared.Refusal.{Refusal}
 use Rattle.refusal.specs.declared.Verdict as Answer
 use Rattle.refusal.specs.declared.Verdict.the-variants as Verdict
 use Rattle.refusal.proofs.Laws.{pass, granted}
-use Rattle.header.specs.declared.SlotData.{SlotData}
-use Rattle.ring.specs.declared.place.Placed.{Placed}
-use Rattle.ring.specs.declared.place.Placed.the-variants as Placed
 use Rattle.ring.proofs.Places.{there-ring}
 use Rattle.format.specs.declared.slots.Elected as Election
 use Rattle.format.specs.declared.slots.Elected.the-variants as Elected
 use Rattle.format.specs.declared.element.V2ElementHeader.{V2ElementHeader}
 use Rattle.format.specs.declared.element.ParsedHeader.{ParsedHeader}
 use Rattle.format.specs.declared.element.ParsedHeader.the-variants as Parsed
-use Rattle.queue.specs.Answers.{onHeader, onPlace, onVerdict}
-use Rattle.queue.specs.Places.{toLogical}
-use Rattle.queue.specs.Element.{capacity, elementHere, headerAt, inSequence}
+use Rattle.queue.specs.Answers.{onVerdict}
+use Rattle.queue.specs.Element.{capacity, elementHere, headerAt}
 use Rattle.queue.specs.State.{sound}
 use Rattle.queue.specs.Recover.{recoverHead}
-use Rattle.queue.specs.Opening.{builtQueue, withEnds, fromHead, orRecovered, firstElement, openEnds, fromState, openState, openQueue}
+use Rattle.queue.specs.Opening.{builtQueue, orRecovered, firstElement, fromState, openState, openQueue}
 use Rattle.queue.specs.Strict.{trailFrom, firstLink, checkTrail, strictly, openStrictly}
 use Rattle.queue.specs.declared.element.Element.{Element}
 use Rattle.queue.specs.declared.state.Settings.{Settings}
@@ -37,17 +32,14 @@ use Rattle.queue.specs.declared.recover.Recovered.the-variants as Recovered
 use Rattle.queue.specs.declared.opening.Opened.{Opened}
 use Rattle.queue.specs.declared.opening.Opened.the-variants.{Queue, Refused}
 use Rattle.queue.proofs.AnswerLaws.{on-granted}
-use Rattle.queue.proofs.Headers.{on-sequence}
+use Rattle.queue.proofs.Headers.{same-header}
 use Rattle.queue.proofs.Sound.{sound-ends, by-count}
-use Rattle.queue.proofs.OpenLaws.{no-queue}
+use Rattle.queue.proofs.OpenLaws.{no-queue, same-queue, EndsOpened, state-opened}
 use Rattle.assurance.specs.Linked.{Stands, Empty}
 use Rattle.assurance.specs.StrictOpening.{WholeTrail, StrictOpeningIsExact}
 use Rattle.assurance.proofs.Chain.{headerOf, header-there}
 use Rattle.assurance.proofs.Recovery.{no-head, recovery-is-exact}
-use Rattle.assurance.proofs.TrailWalk.{same-header, Found, trail-found}
-
-same-queue : (q q′ : QueueFile) → Queue q ≡ Queue q′ → q ≡ q′
-same-queue q q′ e = cc
+use Rattle.assurance.proofs.TrailWalk.{Found, trail-found}
 
 -- ---- plain opening: the ends of what it answers stand
 
@@ -55,14 +47,6 @@ same-queue q q′ e = cc
 record Standing (img : List ℕ) (file : ℕ) (e : Element) : Type 0 where
   pub back : ℕ
   pub stands : Stands img file e back
-
--- of an answer: where it is a state with elements, both ends stand
-abbrev EndsStand : List ℕ → Opened → Type 0
-EndsStand img a =
-    (q : QueueFile) → a ≡ Queue q → (q .«elem_cnt» ≡ 0 → ⊥) → Standing img (q .«file_len») (q .first) × Standing img (q .«file_len») (q .last)
-
-refused-ends : (img : List ℕ) (r : Refusal) → EndsStand img (Refused r)
-refused-ends img r q e n = absurd (no-queue e)
 
 here-stands : (img : List ℕ) (file p : ℕ) (h : V2ElementHeader) → headerAt img file p ≡ Parsed.Header h → Standing img file (elementHere p h)
 here-stands img file p h e = record { back = h .«prev_pos»; stands = e }
@@ -91,48 +75,34 @@ first-stands img file p last n e l o =
     head-stands img file p (headerAt img file p) (recoverHead img file (last .pos) (last .seq) n) e refl
     (recovered-stands img file (last .pos) (last .seq) n e l) o
 
--- through the steps of opening
-on-place : (img : List ℕ) (p : Placed) (next : ℕ → Opened) → ((x : ℕ) → EndsStand img (next x)) → EndsStand img (onPlace Refused p next)
-on-place img (Placed.Refused r) next k = refused-ends img r
-on-place img (Placed.At x) next k = k x
+-- of a state with elements that plain opening answers, both ends stand
+abbrev EndsStand : List ℕ → QueueFile → Type 0
+EndsStand img q = Standing img (q .«file_len») (q .first) × Standing img (q .«file_len») (q .last)
 
-in-sequence : (img : List ℕ) (file p seq : ℕ) (d : ParsedHeader) → headerAt img file p ≡ d → (next : V2ElementHeader → Opened)
-    → ((h : V2ElementHeader) → headerAt img file p ≡ Parsed.Header h → EndsStand img (next h))
-    → EndsStand img (onHeader Refused (inSequence seq d) next)
-in-sequence img file p seq d a next k q e n =
-    let s = on-sequence Refused d seq next (Queue q) (λ r. no-queue) e in
-    k (s .header) (a ∙ s .valid) q (s .goes) n
+ends-stand : (img : List ℕ) (q q′ : QueueFile) → EndsOpened img q q′ → EndsStand img q′
+ends-stand img q q′ k =
+    let last = elementHere (k .last) (k .header) in
+    subst (EndsStand img) (k .built) (
+      first-stands img (q .«file_len») (k .first) last (q .«elem_cnt») (k .head) (omega (arith, k .some)) (k .found),
+      here-stands img (q .«file_len») (k .last) (k .header) (k .valid),
+    )
 
-from-head : (img : List ℕ) (r : Answered.Recovered) (next : Element → Opened) → ((e : Element) → r ≡ Recovered.Head e → EndsStand img (next e))
-    → EndsStand img (fromHead r next)
-from-head img (Recovered.Refused r) next k = refused-ends img r
-from-head img (Recovered.Head e) next k = k e refl
+state-stands : (img : List ℕ) (q q′ : QueueFile) → (q′ .«elem_cnt» ≡ 0 → ⊥) → ((q .«elem_cnt» ≡ 0) × (q ≡ q′)) ⊎ EndsOpened img q q′
+    → EndsStand img q′
+state-stands img q q′ n (inl z) = absurd (n (ap (λ (s : QueueFile). s .«elem_cnt») (sym (z .1)) ∙ z .0))
+state-stands img q q′ n (inr k) = ends-stand img q q′ k
 
-ends-stand : (img : List ℕ) (q : QueueFile) (d : SlotData) → (q .«elem_cnt» ≡ 0 → ⊥) → EndsStand img (openEnds img q d)
-unfolding openEnds
-ends-stand img q d n =
-    on-place img (toLogical (d .«first_position»)) _ (λ first.
-    on-place img (toLogical (d .«last_position»)) _ (λ last.
-    in-sequence img (q .«file_len») last (d .«next_sequence_number» - 1) (headerAt img (q .«file_len») last) refl _ (λ h a.
-    from-head img (firstElement img (q .«file_len») first (elementHere last h) (q .«elem_cnt»)) _ (λ e f q′ i m.
-    let s = first-stands img (q .«file_len») first (elementHere last h) (q .«elem_cnt») e (omega (arith, n)) f in
-    let w : withEnds q e (elementHere last h) ≡ q′ = same-queue _ _ i in
-    rw (sym w) (s, here-stands img (q .«file_len») last h a)))))
-
-opened-ends : (img : List ℕ) (real : ℕ) (settings : Settings) (o : Election.Elected) → EndsStand img (fromState img real settings o)
-opened-ends img real settings (Elected.Refused r) q e n = absurd (no-queue e)
-opened-ends img real settings (Elected.Slot o) q e n =
+elected-stands : (img : List ℕ) (real : ℕ) (settings : Settings) (o : Election.Elected) (q : QueueFile) → fromState img real settings o ≡ Queue q
+    → (q .«elem_cnt» ≡ 0 → ⊥) → EndsStand img q
+elected-stands img real settings (Elected.Refused r) q e n = absurd (no-queue e)
+elected-stands img real settings (Elected.Slot o) q e n =
     let b = builtQueue o real settings in
-    let answer : Bool → Opened = λ none. cond none (Queue b) (openEnds img b (o .slot)) in
-    by-count (o .slot .«element_count»)
-    (λ y.
-    let w : b ≡ q = same-queue _ _ (sym (ap answer (eq-eqb _ _ y)) ∙ e) in
-    absurd (n (ap (λ (x : QueueFile). x .«elem_cnt») (sym w) ∙ y)))
-    (λ x. ends-stand img b (o .slot) x q (sym (ap answer (ne-eqb _ _ x)) ∙ e) n)
+    state-stands img b q n (state-opened img b q (o .slot) e)
 
-open-stands : (img : List ℕ) (real : ℕ) (settings : Settings) → EndsStand img (openQueue img real settings)
+open-stands : (img : List ℕ) (real : ℕ) (settings : Settings) (q : QueueFile) → openQueue img real settings ≡ Queue q
+    → (q .«elem_cnt» ≡ 0 → ⊥) → EndsStand img q
 unfolding openQueue
-open-stands img real settings = opened-ends img real settings (openState img real)
+open-stands img real settings q e n = elected-stands img real settings (openState img real) q e n
 
 -- ---- strict opening
 

@@ -19,12 +19,10 @@ use Rattle.format.specs.Element.{elementSpan, checkFooter}
 use Rattle.format.specs.declared.element.V2ElementHeader.{V2ElementHeader}
 use Rattle.format.specs.declared.element.ParsedHeader.{ParsedHeader}
 use Rattle.format.specs.declared.element.ParsedHeader.the-variants as Parsed
-use Rattle.format.proofs.ElementLaws.{no-header}
 use Rattle.queue.specs.Answers.{onHeader, onVerdict}
 use Rattle.queue.specs.Element.{capacity, elementHere, headerAt, inSequence, payloadAt, footerVerdict}
 use Rattle.queue.specs.Strict.{linkedElement, strictElement, trailFrom}
-use Rattle.queue.proofs.AnswerLaws.{on-granted}
-use Rattle.queue.proofs.Headers.{on-sequence}
+use Rattle.queue.proofs.Trail.{Passed, strict-passed}
 use Rattle.assurance.proofs.Chain.{Elem, headerOf, span, total, Holds, Chain, Rising, Backs, lastFrom, headerIn, header-in, header-mod, header-there}
 
 -- ---- a place is as good as any other that is the same in the ring
@@ -55,32 +53,7 @@ module _ (img : List ℕ) (file p r : ℕ) (e : Elem) (s : r ≡ p % capacity fi
 
 -- ---- one element
 
--- what an element that passes has
-record Passed (img : List ℕ) (file p seq link : ℕ) (h : V2ElementHeader) : Type 0 where
-  pub header : headerAt img file p ≡ Parsed.Header h
-  pub starts : h .seq ≡ seq
-  pub linked : h .«prev_pos» ≡ link
-  pub footer : footerVerdict img file (elementHere p h) ≡ Verdict.Granted
-
-pub same-header : (k h : V2ElementHeader) → Parsed.Header k ≡ Parsed.Header h → k ≡ h
-same-header k h e = cc
-
-passed : (img : List ℕ) (file p seq link : ℕ) (h : V2ElementHeader) → strictElement img file p seq link ≡ Parsed.Header h
-    → Passed img file p seq link h
-unfolding strictElement
-passed img file p seq link h e =
-    let s = on-sequence Parsed.Refused (headerAt img file p) seq (linkedElement img file p link) (Parsed.Header h) (λ r. no-header) e in
-    let l = granted _ _ _ _ no-header (s .goes) in
-    let f = on-granted Parsed.Refused (footerVerdict img file (elementHere p (s .header))) _ _ (λ r. no-header) (l .1) in
-    let i : s .header ≡ h = same-header (s .header) h (f .1) in
-    record {
-      header = s .valid ∙ ap (λ (x : V2ElementHeader). Parsed.Header x) i;
-      starts = ap (λ (x : V2ElementHeader). x .seq) (sym i) ∙ s .in-sequence;
-      linked = ap (λ (x : V2ElementHeader). x .«prev_pos») (sym i) ∙ eqb-true _ _ (l .0);
-      footer = ap (λ (x : V2ElementHeader). footerVerdict img file (elementHere p x)) (sym i) ∙ f .0;
-    }
-
--- the element that it is
+-- the element that a header tells of
 abbrev elemAt : List ℕ → ℕ → ℕ → V2ElementHeader → Elem
 elemAt img size p h =
     record { seq = h .seq; back = h .«prev_pos»; payload = ringRead 8192 size img (p + 28) (h .«payload_len») }
@@ -130,7 +103,7 @@ stepped-header img file p seq link spans rest (Parsed.Header h) a e =
     let g = granted _ _ _ _ refused e in
     record {
       h = h;
-      passed = passed img file (p % capacity file) seq link h a;
+      passed = strict-passed img file (p % capacity file) seq link h a;
       fits = leb-true (spans + elementSpan (h .«payload_len»)) (capacity file) (g .0);
       on =
           ap (λ (x : ℕ). rest x (seq + 1) (8192 + p % capacity file) (spans + elementSpan (h .«payload_len»)))

@@ -38,6 +38,7 @@ abbrev pub Unchanged : {A X : Type 0} → (X → A) → List ℕ → (A → List
 Unchanged {X = X} refuse old P = (x : X) (s : List ℕ) → P (refuse x) s → s ≡ old
 
 pub record RefusalsChangeNothing : Type 0 where
+  -- it refuses in one way, without a number
   pub «script::parse_bytes» :
       (word out : List ℕ) →
       Unchanged (λ (x : Refusal). Spelt.Bad) out (λ (r : Bytes) (out′ : List ℕ). (r, out′) ≡ bytesOf word out)

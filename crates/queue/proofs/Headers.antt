@@ -16,6 +16,9 @@ use Rattle.format.proofs.ElementLaws.{no-header, parsed}
 use Rattle.queue.specs.Answers.{onHeader}
 use Rattle.queue.specs.Element.{capacity, headerAt, readHeader, inSequence, headerInSequence}
 
+pub same-header : (k h : V2ElementHeader) → Header k ≡ Header h → k ≡ h
+same-header k h e = cc
+
 -- a valid header's element fits the ring
 pub header-fits : (img : List ℕ) (file p : ℕ) (h : V2ElementHeader) → headerAt img file p ≡ Header h → elementSpan (h .«payload_len») ≤ capacity file
 unfolding headerAt

@@ -1,12 +1,12 @@
 -- What is known of a file that opens: of the slot that holds in it, and of the state's lengths. Assumes nothing.
 use mathlib.Core.Path.{_≡_, refl, sym, ap, _∙_}
-use mathlib.Core.Bool.{Bool, true, false, cond}
+use mathlib.Core.Logic.{_⊎_, inl, inr}
+use mathlib.Core.Bool.{Bool, cond}
 use mathlib.Core.List.{List}
 use Prim.Native.Nat.{ℕ, _-_, _^_, _≤_, _<_}
 use native.Mathlib.Omega.{arith}
 use lib.ListN.{length}
-use lib.Dec.{eqb}
-use borrow.Author.Tests.{ltb-true, leb-true, ne-eqb}
+use borrow.Author.Tests.{ltb-true, leb-true, eq-eqb, ne-eqb}
 use Rattle.refusal.specs.declared.Refusal.{Refusal}
 use Rattle.refusal.specs.declared.Verdict.the-variants as Verdict
 use Rattle.refusal.proofs.Laws.{granted, refused}
@@ -19,14 +19,13 @@ use Rattle.format.specs.declared.slots.V2OpenState.{V2OpenState}
 use Rattle.format.specs.declared.slots.Elected as Election
 use Rattle.format.specs.declared.slots.Elected.the-variants as Elected
 use Rattle.format.specs.declared.element.V2ElementHeader.{V2ElementHeader}
-use Rattle.format.specs.declared.element.ParsedHeader.{ParsedHeader}
 use Rattle.format.specs.declared.element.ParsedHeader.the-variants as Parsed
 use Rattle.ring.specs.declared.place.Placed.{Placed}
 use Rattle.ring.specs.declared.place.Placed.the-variants as Placed
 use Rattle.queue.specs.Answers.{onHeader, onPlace}
 use Rattle.queue.specs.Places.{toLogical}
-use Rattle.queue.specs.Element.{elementHere, headerInSequence}
-use Rattle.queue.specs.Opening.{checkedState, openState, builtQueue, withEnds, fromHead, firstElement, openEnds, fromState, openQueue}
+use Rattle.queue.specs.Element.{elementHere, headerAt, headerInSequence}
+use Rattle.queue.specs.Opening.{checkedState, openState, builtQueue, withEnds, fromHead, firstElement, openEnds, openedFrom, fromState, openQueue}
 use Rattle.queue.specs.declared.element.Element.{Element}
 use Rattle.queue.specs.declared.state.Settings.{Settings}
 use Rattle.queue.specs.declared.state.QueueFile.{QueueFile}
@@ -35,7 +34,8 @@ use Rattle.queue.specs.declared.recover.Recovered.the-variants as Recove
 use Rattle.queue.specs.declared.opening.Opened.{Opened}
 use Rattle.queue.specs.declared.opening.Opened.the-variants.{Queue, Refused}
 use Rattle.queue.proofs.AnswerLaws.{on-granted}
-use Rattle.queue.proofs.Sound.{not-zero, Lengths}
+use Rattle.queue.proofs.Headers.{on-sequence}
+use Rattle.queue.proofs.Sound.{not-zero, Lengths, by-count}
 
 -- ---- where a slot stands
 
@@ -113,45 +113,64 @@ state-known img real o e =
 
 -- ---- the state that opens
 
--- where the answer is a state, it is q but for its ends
-abbrev Keeps : QueueFile → Opened → Type 0
-Keeps q a = (q′ : QueueFile) → a ≡ Queue q′ → q′ ≡ withEnds q (q′ .first) (q′ .last)
-
 pub no-queue : {r : Refusal} {q : QueueFile} → Refused r ≡ Queue q → ⊥
 no-queue e = let z : _≡_ {A = ℕ} 0 1 = cc in omega arith
 
-keeps-refused : (q : QueueFile) (r : Refusal) → Keeps q (Refused r)
-keeps-refused q r q′ e = absurd (no-queue e)
+pub same-queue : (q q′ : QueueFile) → Queue q ≡ Queue q′ → q ≡ q′
+same-queue q q′ e = cc
 
-keeps-ends : (q : QueueFile) (first last : Element) → Keeps q (Queue (withEnds q first last))
-keeps-ends q first last q′ e =
-    let w : withEnds q first last ≡ q′ = cc in
-    sym w ∙ ap (λ (t : QueueFile). withEnds q (t .first) (t .last)) w
+-- what q with elements went by where it opens as q′: the ends' places, a valid header at last, and a head from first on
+pub record EndsOpened (img : List ℕ) (q q′ : QueueFile) : Type 0 where
+  pub some : q .«elem_cnt» ≡ 0 → ⊥
+  pub first : ℕ
+  pub last : ℕ
+  pub header : V2ElementHeader
+  pub valid : headerAt img (q .«file_len») last ≡ Parsed.Header header
+  pub head : Element
+  pub found : firstElement img (q .«file_len») first (elementHere last header) (q .«elem_cnt») ≡ Recovered.Head head
+  pub built : withEnds q head (elementHere last header) ≡ q′
 
-keeps-place : (q : QueueFile) (p : Placed) (next : ℕ → Opened) → ((x : ℕ) → Keeps q (next x)) → Keeps q (onPlace Refused p next)
-keeps-place q (Placed.Refused r) next k = keeps-refused q r
-keeps-place q (Placed.At x) next k = k x
+module _ (img : List ℕ) (q q′ : QueueFile) (n : q .«elem_cnt» ≡ 0 → ⊥) where
+  head-opened : (first last : ℕ) (h : V2ElementHeader) (r : Recovery.Recovered) → headerAt img (q .«file_len») last ≡ Parsed.Header h
+      → firstElement img (q .«file_len») first (elementHere last h) (q .«elem_cnt») ≡ r
+      → fromHead r (λ e. Queue (withEnds q e (elementHere last h))) ≡ Queue q′ → EndsOpened img q q′
+  head-opened first last h (Recovered.Refused r) v f e = absurd (no-queue e)
+  head-opened first last h (Recovered.Head x) v f e =
+      record { some = n; first = first; last = last; header = h; valid = v; head = x; found = f; built = same-queue _ _ e }
 
-keeps-header : (q : QueueFile) (p : ParsedHeader) (next : V2ElementHeader → Opened) → ((h : V2ElementHeader) → Keeps q (next h)) → Keeps q (onHeader Refused p next)
-keeps-header q (Parsed.Refused r) next k = keeps-refused q r
-keeps-header q (Parsed.Header h) next k = k h
+  places-opened : (a b : Placed) (seq : ℕ) →
+      onPlace Refused a (λ first.
+      onPlace Refused b (λ last.
+      onHeader Refused (headerInSequence img (q .«file_len») last seq) (λ h.
+      fromHead (firstElement img (q .«file_len») first (elementHere last h) (q .«elem_cnt»)) (λ e.
+      Queue (withEnds q e (elementHere last h))))))
+      ≡ Queue q′ → EndsOpened img q q′
+  places-opened (Placed.Refused r) b seq e = absurd (no-queue e)
+  places-opened (Placed.At first) (Placed.Refused r) seq e = absurd (no-queue e)
+  places-opened (Placed.At first) (Placed.At last) seq e =
+      let s = on-sequence Refused (headerAt img (q .«file_len») last) seq _ (Queue q′) (λ r. no-queue) e in
+      head-opened first last (s .header) _ (s .valid) refl (s .goes)
 
-keeps-head : (q : QueueFile) (p : Recovery.Recovered) (next : Element → Opened) → ((x : Element) → Keeps q (next x)) → Keeps q (fromHead p next)
-keeps-head q (Recovered.Refused r) next k = keeps-refused q r
-keeps-head q (Recovered.Head x) next k = k x
+  ends-opened : (d : SlotData) → openEnds img q d ≡ Queue q′ → EndsOpened img q q′
+  unfolding openEnds
+  ends-opened d e = places-opened (toLogical (d .«first_position»)) (toLogical (d .«last_position»)) (d .«next_sequence_number» - 1) e
 
-keeps-open-ends : (img : List ℕ) (q : QueueFile) (d : SlotData) → Keeps q (openEnds img q d)
-unfolding openEnds
-keeps-open-ends img q d =
-    keeps-place q (toLogical (d .«first_position»)) _ (λ first.
-    keeps-place q (toLogical (d .«last_position»)) _ (λ last.
-    keeps-header q (headerInSequence img (q .«file_len») last (d .«next_sequence_number» - 1)) _ (λ h.
-    keeps-head q (firstElement img (q .«file_len») first (elementHere last h) (q .«elem_cnt»)) _ (λ e.
-    keeps-ends q e (elementHere last h)))))
+-- a state that opens from q is q itself, with no elements, or has gone by its ends
+pub state-opened : (img : List ℕ) (q q′ : QueueFile) (d : SlotData) → openedFrom img q d ≡ Queue q′
+    → ((q .«elem_cnt» ≡ 0) × (q ≡ q′)) ⊎ EndsOpened img q q′
+state-opened img q q′ d e =
+    let answer : Bool → Opened = λ none. cond none (Queue q) (openEnds img q d) in
+    by-count (q .«elem_cnt»)
+    (λ z. inl (z, same-queue q q′ (sym (ap answer (eq-eqb _ _ z)) ∙ e)))
+    (λ n. inr (ends-opened img q q′ n d (sym (ap answer (ne-eqb _ _ n)) ∙ e)))
 
-keeps-either : (q : QueueFile) (t : Bool) (a : Opened) → Keeps q a → Keeps q (cond t (Queue q) a)
-keeps-either q true a k = keeps-ends q (q .first) (q .last)
-keeps-either q false a k = k
+-- either way all but its ends is q
+own-ends : (q q′ : QueueFile) (first last : Element) → withEnds q first last ≡ q′ → q′ ≡ withEnds q (q′ .first) (q′ .last)
+own-ends q q′ first last w = sym w ∙ ap (λ (t : QueueFile). withEnds q (t .first) (t .last)) w
+
+state-own : (img : List ℕ) (q q′ : QueueFile) → ((q .«elem_cnt» ≡ 0) × (q ≡ q′)) ⊎ EndsOpened img q q′ → q′ ≡ withEnds q (q′ .first) (q′ .last)
+state-own img q q′ (inl z) = own-ends q q′ (q .first) (q .last) (z .1)
+state-own img q q′ (inr k) = own-ends q q′ (k .head) (elementHere (k .last) (k .header)) (k .built)
 
 -- the state is the one that the slot tells of, but for its ends
 pub record From (img : List ℕ) (real : ℕ) (settings : Settings) (q : QueueFile) : Type 0 where
@@ -163,8 +182,7 @@ from-elected : (img : List ℕ) (real : ℕ) (settings : Settings) (q : QueueFil
 from-elected img real settings q (Elected.Refused r) h a = absurd (no-queue a)
 from-elected img real settings q (Elected.Slot o) h a =
     let b = builtQueue o real settings in
-    let kept = keeps-either b (eqb (o .slot .«element_count») 0) (openEnds img b (o .slot)) (keeps-open-ends img b (o .slot)) in
-    record { state = o; holds = h; built = kept q a }
+    record { state = o; holds = h; built = state-own img b q (state-opened img b q (o .slot) a) }
 
 pub opened-from : (img : List ℕ) (real : ℕ) (settings : Settings) (q : QueueFile) → openQueue img real settings ≡ Queue q → From img real settings q
 unfolding openQueue
