@@ -26,6 +26,33 @@ extern "C" {
         len: u64,
     ) -> u32;
     fn port_relocate(image: *mut u8, image_len: usize, old: u64, count: u64) -> u32;
+    fn port_open(image: *const u8, image_len: usize, real_len: u64) -> u32;
+    fn port_add(
+        image: *mut u8,
+        image_len: usize,
+        real_len: u64,
+        payload: *const u8,
+        payload_len: usize,
+        n: u64,
+    ) -> u64;
+    fn port_remove(image: *mut u8, image_len: usize, real_len: u64, n: u64) -> u64;
+    fn port_clear(image: *mut u8, image_len: usize, real_len: u64, n: u64) -> u64;
+    fn port_peek(
+        image: *const u8,
+        image_len: usize,
+        real_len: u64,
+        out: *mut u8,
+        out_len: usize,
+        n: u64,
+    ) -> u64;
+    fn port_iterate(
+        image: *const u8,
+        image_len: usize,
+        real_len: u64,
+        out: *mut u8,
+        out_len: usize,
+        n: u64,
+    ) -> u64;
 }
 
 pub fn crc32(part: &[u8]) -> u32 {
@@ -56,4 +83,51 @@ pub fn ring_erase(image: &mut [u8], place: usize, count: usize) -> u32 {
 pub fn relocate(image: &mut [u8], old: usize, count: usize) -> u32 {
     // SAFETY: as above.
     unsafe { port_relocate(image.as_mut_ptr(), image.len(), old as u64, count as u64) }
+}
+
+// Of an image's bytes, the first `real` are the queue's file. Each call below but the first opens it
+// and carries out n operations; it is an error here if one of them is refused.
+
+/// The number of the refusal, 0 for none.
+pub fn open(image: &[u8], real: usize) -> u32 {
+    // SAFETY: as above.
+    unsafe { port_open(image.as_ptr(), image.len(), real as u64) }
+}
+
+pub fn add(image: &mut [u8], real: usize, payload: &[u8], n: usize) {
+    let (len, payload_len) = (image.len(), payload.len());
+    // SAFETY: as above.
+    let done = unsafe {
+        port_add(image.as_mut_ptr(), len, real as u64, payload.as_ptr(), payload_len, n as u64)
+    };
+    assert_eq!(done, n as u64, "additions");
+}
+
+pub fn remove(image: &mut [u8], real: usize, n: usize) {
+    // SAFETY: as above.
+    let done = unsafe { port_remove(image.as_mut_ptr(), image.len(), real as u64, n as u64) };
+    assert_eq!(done, n as u64, "removals");
+}
+
+pub fn clear(image: &mut [u8], real: usize, n: usize) {
+    // SAFETY: as above.
+    let done = unsafe { port_clear(image.as_mut_ptr(), image.len(), real as u64, n as u64) };
+    assert_eq!(done, n as u64, "clearings");
+}
+
+pub fn peek(image: &[u8], real: usize, out: &mut [u8], n: usize) {
+    let (len, out_len) = (image.len(), out.len());
+    // SAFETY: as above.
+    let done =
+        unsafe { port_peek(image.as_ptr(), len, real as u64, out.as_mut_ptr(), out_len, n as u64) };
+    assert_eq!(done, n as u64, "peeks");
+}
+
+pub fn iterate(image: &[u8], real: usize, out: &mut [u8], n: usize) {
+    let (len, out_len) = (image.len(), out.len());
+    // SAFETY: as above.
+    let done = unsafe {
+        port_iterate(image.as_ptr(), len, real as u64, out.as_mut_ptr(), out_len, n as u64)
+    };
+    assert_eq!(done, n as u64, "steps");
 }

@@ -35,3 +35,19 @@ fn round<T>(times: usize, subject: &mut T, work: Work<T>) -> f64 {
 pub fn speed(len: usize, seconds: f64) -> String {
     format!("{:.0} MB/s", len as f64 / seconds / 1e6)
 }
+
+/// The seconds that each of n operations takes that are done at once.
+pub fn once(n: usize, work: impl FnOnce()) -> f64 {
+    let start = Instant::now();
+    work();
+    start.elapsed().as_secs_f64() / n as f64
+}
+
+/// A time, for a table.
+pub fn time(seconds: f64) -> String {
+    match seconds {
+        s if s < 1e-6 => format!("{:.0} ns", s * 1e9),
+        s if s < 1e-3 => format!("{:.1} µs", s * 1e6),
+        s => format!("{:.2} ms", s * 1e3),
+    }
+}

@@ -175,4 +175,10 @@ exports-answers =
       «port_ring_write» = λ image «file_len» «logical_pos» buf. one-then _;
       «port_ring_erase» = λ image «file_len» «logical_pos» len. one-then _;
       «port_relocate» = λ image «orig_file_len» «moved_count». one-then _;
+      «port_open» = λ image «real_len». one;
+      «port_add» = λ image «real_len» payload n. pair;
+      «port_remove» = λ image «real_len» n. pair;
+      «port_clear» = λ image «real_len» n. pair;
+      «port_peek» = λ image «real_len» out n. pair;
+      «port_iterate» = λ image «real_len» out n. pair;
     }

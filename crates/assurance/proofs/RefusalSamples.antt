@@ -7,6 +7,7 @@ use Rattle.refusal.specs.Table.{plain}
 use Rattle.refusal.specs.declared.Verdict.the-variants as Verdict
 use Rattle.ring.specs.Ring.{hasRing, judgeRing, judgeRelocation}
 use Rattle.queue.specs.State.{soundLengths, sound}
+use Rattle.queue.specs.Opening.{openState, openQueue}
 use Rattle.queue.specs.Peek.{fitPeek, judgePeek}
 use Rattle.queue.specs.Iter.{startOf, judgeStep}
 use Rattle.queue.specs.declared.peek.Peeked.the-variants as Peeked
@@ -18,6 +19,7 @@ use Rattle.writing.specs.Removal.{removeOf}
 use Rattle.writing.specs.Clearing.{clearOf}
 use Rattle.writing.specs.Fresh.{freshOf}
 use Rattle.writing.specs.declared.answer.Changed.the-variants as Changed
+use Rattle.exports.specs.Runs.{addsOf, removesOf, clearsOf, peeksOf, stepsOf}
 use Rattle.script.specs.Hex.{isDash, isHex, unhex, bytesOf}
 use Rattle.script.specs.declared.hex.Bytes.the-variants as Bytes
 use Rattle.assurance.specs.ChangeSamples.{settings, none}
@@ -65,3 +67,8 @@ relocation-refused = refl
 pub bytes-refused : bytesOf [] [] ≡ (Bytes.Bad, [])
 unfolding isDash isHex unhex bytesOf
 bytes-refused = refl
+
+-- the image does not open
+pub runs-refused : (addsOf [] 1 8280 [] ≡ (0, [])) × (removesOf 1 8280 [] ≡ (0, [])) × (clearsOf 1 8280 [] ≡ (0, [])) × (peeksOf [] 8280 1 [] ≡ (0, [])) × (stepsOf [] 8280 1 [] ≡ (0, []))
+unfolding demand openState openQueue
+runs-refused = (refl, refl, refl, refl, refl)

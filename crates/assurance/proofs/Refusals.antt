@@ -1,7 +1,7 @@
 -- A refusal changes nothing, function by function: each refuses by `kept`, or by an answer that leaves what was there.
 -- Assumes nothing.
-use Prim.Native.Nat.{ℕ, suc}
-use mathlib.Core.Path.{_≡_, refl, sym, ap}
+use Prim.Native.Nat.{ℕ, zero, suc, _+_, _≤_}
+use mathlib.Core.Path.{_≡_, refl, sym, ap, _∙_}
 use mathlib.Core.Bool.{Bool, true, false, cond, _&&_, _||_}
 use mathlib.Core.List.{List, _++_}
 use native.Mathlib.Omega.{arith}
@@ -13,10 +13,21 @@ use Rattle.refusal.specs.declared.Verdict.{Verdict}
 use Rattle.refusal.specs.declared.Verdict.the-variants as Verdicts
 use Rattle.refusal.proofs.Laws.{keep}
 use Rattle.ring.specs.Ring.{judgeRing, judgeRelocation}
+use Rattle.wire.specs.Wire.{putAt}
 use Rattle.queue.specs.Answers.{onVerdict}
+use Rattle.queue.specs.Element.{payloadAt}
+use Rattle.queue.specs.Peek.{judgePeek, peekedOutput}
+use Rattle.queue.specs.Iter.{startOf, judgeStep, steppedOutput}
 use Rattle.queue.specs.declared.element.Element.{Element}
 use Rattle.queue.specs.declared.state.Settings.{Settings}
 use Rattle.queue.specs.declared.state.QueueFile.{QueueFile}
+use Rattle.queue.specs.declared.opening.Opened as Opening
+use Rattle.queue.specs.declared.opening.Opened.the-variants as Opened
+use Rattle.queue.specs.declared.peek.Peeked as Peek
+use Rattle.queue.specs.declared.peek.Peeked.the-variants as Peeked
+use Rattle.queue.specs.declared.iter.Cursor.{Cursor}
+use Rattle.queue.specs.declared.iter.Stepped as Iterating
+use Rattle.queue.specs.declared.iter.Stepped.the-variants as Stepped
 use Rattle.queue.specs.declared.state.Count as Number
 use Rattle.queue.specs.declared.state.Count.the-variants as Count
 use Rattle.writing.specs.Work.{Work, done, kept, onCount}
@@ -32,6 +43,7 @@ use Rattle.writing.specs.declared.answer.Changed.the-variants.{Queue, Refused}
 use Rattle.writing.specs.declared.removal.Skipped as Walk
 use Rattle.writing.specs.declared.removal.Skipped.the-variants as Skipped
 use Rattle.writing.proofs.Choices.{either}
+use Rattle.exports.specs.Runs.{Run, onOpened, opened, onChanged, runFrom, runOf, onPeeked, outputPeeked, peeksFrom, onStepped, outputStepped, stepsFrom}
 use Rattle.script.specs.Hex.{isDash, isHex, unhex, bytesOf}
 use Rattle.script.specs.declared.hex.Bytes.{Bytes}
 use Rattle.script.specs.declared.hex.Bytes.the-variants as Spelt
@@ -131,6 +143,94 @@ numbered : (v : Verdict) (n : ℕ) (new old s : List ℕ) → (suc n ≡ verdict
 numbered Verdicts.Granted n new old s p = absurd (omega (arith, p .0))
 numbered (Verdicts.Refused r) n new old s p = p .1
 
+-- ---- a run of operations, of which none was carried out
+
+-- where an operation is carried out, the rest counts one more; where it is not, the count stays
+on-changed : (a : Changed) (img : List ℕ) (k : ℕ) (next : QueueFile → List ℕ → Run) →
+    ((q : QueueFile) (img′ : List ℕ) → k + 1 ≤ (next q img′) .0) → k ≤ (onChanged a img k next) .0
+on-changed (Queue q) img k next more = let h = more q img in omega (arith, h)
+on-changed (Refused r) img k next more = omega arith
+
+on-peeked : (a : Peek.Peeked) (out : List ℕ) (k : ℕ) (next : List ℕ → Run) → ((out′ : List ℕ) → k + 1 ≤ (next out′) .0) →
+    k ≤ (onPeeked a out k next) .0
+on-peeked (Peeked.Payload n) out k next more = let h = more out in omega (arith, h)
+on-peeked Peeked.Empty out k next more = omega arith
+on-peeked (Peeked.Refused r) out k next more = omega arith
+
+on-stepped : (a : Iterating.Stepped) (out : List ℕ) (k : ℕ) (next : Cursor → List ℕ → Run) →
+    ((c : Cursor) (out′ : List ℕ) → k + 1 ≤ (next c out′) .0) → k ≤ (onStepped a out k next) .0
+on-stepped (Stepped.Element t) out k next more = let h = more (t .next) out in omega (arith, h)
+on-stepped Stepped.End out k next more = omega arith
+on-stepped (Stepped.Refused r) out k next more = omega arith
+
+-- so a run has at least what it starts from
+run-counts : (op : QueueFile → List ℕ → Changed × List ℕ) (left k : ℕ) (q : QueueFile) (img : List ℕ) → k ≤ (runFrom op left k q img) .0
+unfolding runFrom
+run-counts op zero k q img = omega arith
+run-counts op (suc left) k q img = on-changed ((op q img) .0) ((op q img) .1) k (runFrom op left (k + 1)) (run-counts op left (k + 1))
+
+-- if none was, the first was refused, and a refused one keeps the image
+run-keeps : (op : QueueFile → List ℕ → Changed × List ℕ) → ((q : QueueFile) (img : List ℕ) → Kept img (op q img)) →
+    (n : ℕ) (q : QueueFile) (img s : List ℕ) → _≡_ {A = Run} (0, s) (runFrom op n 0 q img) → s ≡ img
+unfolding runFrom
+run-keeps op k zero q img s p = ap (λ (a : Run). a .1) p
+run-keeps op k (suc n) q img s p = on ((op q img) .0) refl p
+  where
+    on : (a : Changed) → a ≡ (op q img) .0 → _≡_ {A = Run} (0, s) (onChanged a ((op q img) .1) 0 (runFrom op n 1)) → s ≡ img
+    on (Queue q′) e p′ =
+        let h = run-counts op n 1 q′ ((op q img) .1) in
+        let z : 0 ≡ (runFrom op n 1 q′ ((op q img) .1)) .0 = ap (λ (a : Run). a .0) p′ in
+        absurd (omega (arith, h, z))
+    on (Refused r) e p′ =
+        ap (λ (a : Run). a .1) p′ ∙ k q img ((op q img) .1) r (ap (λ (a : Changed). (a, (op q img) .1)) (sym e))
+
+peeks-count : (q : QueueFile) (img : List ℕ) (left k : ℕ) (out : List ℕ) → k ≤ (peeksFrom q img left k out) .0
+unfolding peeksFrom
+peeks-count q img zero k out = omega arith
+peeks-count q img (suc left) k out =
+    on-peeked (judgePeek q img (length out)) (outputPeeked q img out) k (peeksFrom q img left (k + 1)) (peeks-count q img left (k + 1))
+
+peeks-keep : (q : QueueFile) (img : List ℕ) (n : ℕ) (out s : List ℕ) → _≡_ {A = Run} (0, s) (peeksFrom q img n 0 out) → s ≡ out
+unfolding peeksFrom
+peeks-keep q img zero out s p = ap (λ (a : Run). a .1) p
+peeks-keep q img (suc n) out s p = on (judgePeek q img (length out)) p
+  where
+    on : (a : Peek.Peeked) → _≡_ {A = Run} (0, s) (onPeeked a (peekedOutput a (payloadAt img (q .«file_len») (q .first)) out) 0 (peeksFrom q img n 1)) → s ≡ out
+    on (Peeked.Payload m) p′ =
+        let h = peeks-count q img n 1 (putAt out 0 (payloadAt img (q .«file_len») (q .first))) in
+        let z = ap (λ (a : Run). a .0) p′ in
+        absurd (omega (arith, h, z))
+    on Peeked.Empty p′ = ap (λ (a : Run). a .1) p′
+    on (Peeked.Refused r) p′ = ap (λ (a : Run). a .1) p′
+
+steps-count : (q : QueueFile) (img : List ℕ) (left k : ℕ) (c : Cursor) (out : List ℕ) → k ≤ (stepsFrom q img left k c out) .0
+unfolding stepsFrom
+steps-count q img zero k c out = omega arith
+steps-count q img (suc left) k c out =
+    on-stepped (judgeStep q img c (length out)) (outputStepped q img c out) k (stepsFrom q img left (k + 1)) (steps-count q img left (k + 1))
+
+steps-keep : (q : QueueFile) (img : List ℕ) (n : ℕ) (c : Cursor) (out s : List ℕ) → _≡_ {A = Run} (0, s) (stepsFrom q img n 0 c out) → s ≡ out
+unfolding stepsFrom
+steps-keep q img zero c out s p = ap (λ (a : Run). a .1) p
+steps-keep q img (suc n) c out s p = on (judgeStep q img c (length out)) p
+  where
+    on : (a : Iterating.Stepped) → _≡_ {A = Run} (0, s) (onStepped a (steppedOutput a img (q .«file_len») out) 0 (stepsFrom q img n 1)) → s ≡ out
+    on (Stepped.Element t) p′ =
+        let h = steps-count q img n 1 (t .next) (steppedOutput (Stepped.Element t) img (q .«file_len») out) in
+        let z = ap (λ (a : Run). a .0) p′ in
+        absurd (omega (arith, h, z))
+    on Stepped.End p′ = ap (λ (a : Run). a .1) p′
+    on (Stepped.Refused r) p′ = ap (λ (a : Run). a .1) p′
+
+opened-keeps : (o : Opening.Opened) (bytes s : List ℕ) (next : QueueFile → Run) → ((q : QueueFile) → _≡_ {A = Run} (0, s) (next q) → s ≡ bytes) →
+    _≡_ {A = Run} (0, s) (onOpened o bytes next) → s ≡ bytes
+opened-keeps (Opened.Queue q) bytes s next k p = k q p
+opened-keeps (Opened.Refused r) bytes s next k p = ap (λ (a : Run). a .1) p
+
+runs-keep : (op : QueueFile → List ℕ → Changed × List ℕ) → ((q : QueueFile) (img : List ℕ) → Kept img (op q img)) →
+    (n real : ℕ) (img s : List ℕ) → _≡_ {A = Run} (0, s) (runOf op n real img) → s ≡ img
+runs-keep op k n real img s = opened-keeps (opened img real) img s (λ q. runFrom op n 0 q img) (λ q. run-keeps op k n q img s)
+
 -- ---- the theorem
 
 pub refusals-change-nothing : RefusalsChangeNothing
@@ -156,4 +256,13 @@ refusals-change-nothing =
       «exports::port_relocate» =
           λ image «orig_file_len» «moved_count» n s p.
           numbered (judgeRelocation 8192 (length image) «orig_file_len» «moved_count») n _ image s p;
+      «exports::port_add» = λ image «real_len» payload n x s. runs-keep (λ q. addOf q payload) (λ q. add-keeps q payload) n «real_len» image s;
+      «exports::port_remove» = λ image «real_len» n x s. runs-keep (λ q. removeOf q 1) (λ q. remove-keeps q 1) n «real_len» image s;
+      «exports::port_clear» = λ image «real_len» n x s. runs-keep clearOf clear-keeps n «real_len» image s;
+      «exports::port_peek» =
+          λ image «real_len» out n x s.
+          opened-keeps (opened image «real_len») out s (λ q. peeksFrom q image n 0 out) (λ q. peeks-keep q image n out s);
+      «exports::port_iterate» =
+          λ image «real_len» out n x s.
+          opened-keeps (opened image «real_len») out s (λ q. stepsFrom q image n 0 (startOf q) out) (λ q. steps-keep q image n (startOf q) out s);
     }

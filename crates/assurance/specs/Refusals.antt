@@ -32,6 +32,7 @@ use Rattle.writing.specs.Clearing.{clearOf}
 use Rattle.writing.specs.Fresh.{freshOf}
 use Rattle.writing.specs.declared.answer.Changed.{Changed}
 use Rattle.writing.specs.declared.answer.Changed.the-variants as Changes
+use Rattle.exports.specs.Runs.{addsOf, removesOf, clearsOf, peeksOf, stepsOf}
 
 -- of a promise P: with a refusal, whichever, the bytes are the old ones
 abbrev pub Unchanged : {A X : Type 0} → (X → A) → List ℕ → (A → List ℕ → Type 0) → Type 0
@@ -112,3 +113,20 @@ pub record RefusalsChangeNothing : Type 0 where
       Unchanged suc image (λ (r : ℕ) (image′ : List ℕ).
       (r ≡ (verdictRefusal (judgeRelocation 8192 (length image) «orig_file_len» «moved_count»)) .number)
       × (image′ ≡ after (judgeRelocation 8192 (length image) «orig_file_len» «moved_count») (relocated 8192 image «orig_file_len» «moved_count») image))
+  -- these answer how many of n operations were carried out, and refuse at once where that is 0; a later one that is refused ends them, and
+  -- what those before it did stays
+  pub «exports::port_add» :
+      (image : List ℕ) («real_len» : ℕ) (payload : List ℕ) (n : ℕ) →
+      Unchanged (λ (x : Refusal). 0) image (λ (r : ℕ) (image′ : List ℕ). (r, image′) ≡ addsOf payload n «real_len» image)
+  pub «exports::port_remove» :
+      (image : List ℕ) («real_len» n : ℕ) →
+      Unchanged (λ (x : Refusal). 0) image (λ (r : ℕ) (image′ : List ℕ). (r, image′) ≡ removesOf n «real_len» image)
+  pub «exports::port_clear» :
+      (image : List ℕ) («real_len» n : ℕ) →
+      Unchanged (λ (x : Refusal). 0) image (λ (r : ℕ) (image′ : List ℕ). (r, image′) ≡ clearsOf n «real_len» image)
+  pub «exports::port_peek» :
+      (image : List ℕ) («real_len» : ℕ) (out : List ℕ) (n : ℕ) →
+      Unchanged (λ (x : Refusal). 0) out (λ (r : ℕ) (out′ : List ℕ). (r, out′) ≡ peeksOf image «real_len» n out)
+  pub «exports::port_iterate» :
+      (image : List ℕ) («real_len» : ℕ) (out : List ℕ) (n : ℕ) →
+      Unchanged (λ (x : Refusal). 0) out (λ (r : ℕ) (out′ : List ℕ). (r, out′) ≡ stepsOf image «real_len» n out)

@@ -1,11 +1,19 @@
-// What the benchmarks link from Rust: each function is one of the library's, under a name of its own. Where the library
-// answers with a verdict, its number is given, and 0 where nothing is refused.
+// What the benchmarks link from Rust: each function here is one of the library's, under a name of its own. Where the library
+// answers with a verdict, its number is given, and 0 where nothing is refused. runs.rt has the queue's, many in one call.
+mod runs;
+
 ghost use mathlib.Core.Path.{_≡_};
 ghost use lib.ListN.{length};
 ghost use Rattle.crc.specs.Crc.{crcOf};
 ghost use Prim.Native.Nat.{_-_};
 ghost use Rattle.refusal.specs.Verdict.{verdictRefusal, after};
 ghost use Rattle.ring.specs.Ring.{ringRead, ringWrite, ringErase, relocated, judgeRing, judgeRelocation};
+pub use runs::port_add;
+pub use runs::port_clear;
+pub use runs::port_iterate;
+pub use runs::port_open;
+pub use runs::port_peek;
+pub use runs::port_remove;
 
 #[no_mangle]
 pub extern "C" fn port_crc32(part: &[u8]) -> u32

@@ -1,0 +1,40 @@
+-- `exports::runs::port_iterate` meets its contract: the run on what the image opens to. Assumes nothing.
+use mathlib.Core.Path.{_∙_}
+use borrow.Author.Needs.{needs}
+use Rattle.exports.proofs.RunLaws.{opened-is}
+use Rattle.exports.proofs.runs.port_iterate.Statement.{statement}
+use Rattle.exports.proofs.runs.port_iterate.Tie as tie
+
+settings-of-requires : tie.Need-settings-of-requires
+settings-of-requires c κs = search needs
+
+open-requires : tie.Need-open-requires
+open-requires c κs = search needs
+
+enum-known-q : tie.Need-enum-known-q
+enum-known-q c = search needs
+
+enum-told : tie.Need-enum-told
+enum-told c = search needs
+
+returns : tie.Need-returns
+returns c =
+    let o = c .before .before in
+    rw (opened-is _ _ _ _ (o .before .settings-of .ensures) (o .open .ensures) ∙ c .enum-told .given .1)
+
+steps-requires : tie.Need-steps-requires
+steps-requires c κs = search needs
+
+same-length : tie.Need-same-length
+same-length c = search needs
+
+returns-2 : tie.Need-returns-2
+returns-2 c =
+    let q = c .before .before .before .before .before in
+    let o = q .before .before in
+    rw (opened-is _ _ _ _ (o .before .settings-of .ensures) (o .open .ensures) ∙ q .q .given .1, c .before .before .steps .ensures)
+
+pub port-iterate-spec : {M : Type 1} → statement M
+port-iterate-spec =
+    tie.close
+    (tie.spec settings-of-requires open-requires enum-known-q enum-told returns steps-requires same-length returns-2)
