@@ -2,7 +2,7 @@
 -- once. Assumes nothing.
 use mathlib.Core.Path.{_≡_, sym, ap, _∙_}
 use mathlib.Core.List.{List, [], _∷_}
-use Prim.Native.Nat.{ℕ, _+_, _-_, _*_, _^_, _<_}
+use Prim.Native.Nat.{ℕ, _+_, _*_, _^_, _<_}
 use lib.ListN.{length}
 use lib.Bits.{bitXor, xor-comm, xor-zero-r, xor-shifted}
 use Rattle.crc.specs.Crc.{shifts, byteIn, bytesIn}

@@ -6,6 +6,11 @@ ghost use Rattle.format.specs.Element.{headerBytes, encodeHeader, judgeH
 use refusal::Refusal;
 use refusal::Verdict;
 
+// The bytes that a header begins with, and those of a footer.
+const V2_ELEM_HDR_MAGIC: [u8; 4] = *b"ITHD";
+
+const V2_ELEM_FTR_MAGIC: [u8; 4] = *b"ITFT";
+
 // The bytes of an element before its payload.
 pub const V2_ELEM_HDR_LEN: u64 = 28;
 
@@ -63,7 +68,7 @@ fn header_bytes(seq: u64, prev_phys: u64, len: u32) -> [u8; 28]
     ensures { λ r. ⌜ r ≡ headerBytes seq «prev_phys» len ⌝ }
 {
     let mut hdr = [0u8; 28];
-    wire::put(&mut hdr, 0, b"ITHD");
+    wire::put(&mut hdr, 0, &V2_ELEM_HDR_MAGIC);
     wire::put_u64(&mut hdr, 4, seq);
     wire::put_u64(&mut hdr, 12, prev_phys);
     wire::put_u32(&mut hdr, 20, len);
@@ -79,7 +84,7 @@ pub fn parse_v2_element_header(s: &[u8], capacity: u64) -> ParsedHeader
     if s.len() < 28 {
         return ParsedHeader::Refused(Refusal::SHORT);
     }
-    if !wire::starts_with(s, b"ITHD") {
+    if !wire::starts_with(s, &V2_ELEM_HDR_MAGIC) {
         return ParsedHeader::Refused(Refusal::HEADER_MAGIC);
     }
     let seq = wire::get_u64(s, 4);
@@ -126,7 +131,7 @@ pub fn encode_v2_footer(seq: u64, payload: &[u8]) -> [u8; 16]
     ensures { λ r. ⌜ r ≡ footerBytes seq (now (payload .entry)) ⌝ }
 {
     let mut ftr = [0u8; 16];
-    wire::put(&mut ftr, 0, b"ITFT");
+    wire::put(&mut ftr, 0, &V2_ELEM_FTR_MAGIC);
     wire::put_u64(&mut ftr, 4, seq);
     let sum = crc::crc32_joined(payload, &ftr[..12]);
     wire::put_u32(&mut ftr, 12, sum);
@@ -140,7 +145,7 @@ pub fn validate_v2_footer(s: &[u8], seq: u64, payload: &[u8], rest: &[u8]) -> Ve
     if s.len() < 16 {
         return Verdict::Refused(Refusal::SHORT);
     }
-    if !wire::starts_with(s, b"ITFT") {
+    if !wire::starts_with(s, &V2_ELEM_FTR_MAGIC) {
         return Verdict::Refused(Refusal::FOOTER_MAGIC);
     }
     if wire::get_u64(s, 4) != seq {

@@ -42,6 +42,7 @@ pub struct EncodedV1Header {
     pub bytes: [u8; 32],
 }
 
+// The bytes of a Legacy header, where each field fits an i32.
 pub fn encode_legacy_header(
     file_len: u64,
     elem_cnt: u64,
@@ -126,6 +127,7 @@ fn judge_metadata(
     }
 }
 
+// The bytes of a V1 header, where the count fits an i32 and each other field an i64.
 pub fn encode_v1_header(
     file_len: u64,
     elem_cnt: u64,

@@ -1,7 +1,7 @@
 -- An encoder's stores, each behind the one before, lay out its bytes: a slot's, and what other layouts share.
 -- Assumes nothing.
 use mathlib.Core.Path.{_≡_, refl, ap, _∙_}
-use mathlib.Core.List.{List, [], _∷_, _++_, append-nil}
+use mathlib.Core.List.{List, [], _++_, append-nil}
 use Prim.Native.Nat.{ℕ}
 use lib.ListN.{length, take, replicate}
 use lib.Seq.{take-append-seam}
@@ -23,34 +23,26 @@ sealed {sum = sum} f fields pa ps pb =
     ∙ append-nil (fields ++ be 4 sum)
     ∙ ap (λ (n : ℕ). fields ++ be 4 n) summed
 
-abbrev magic : List ℕ
-magic = 0x51 ∷ 0x46 ∷ 0x4D ∷ 0x48 ∷ []
-
-abbrev version : List ℕ
-version = 2 ∷ 0 ∷ 0 ∷ 0 ∷ []
-
 module _ (x : SlotData) where
-  pub fields-laid : {a b c d e f g h : List ℕ} →
-      a ≡ putAt (zeros 56) 0 magic →
-      b ≡ putAt a 4 version →
-      c ≡ putAt b 8 (be 8 (x .«file_length»)) →
-      d ≡ putAt c 16 (be 4 (x .«element_count»)) →
-      e ≡ putAt d 20 (be 8 (x .«first_position»)) →
-      f ≡ putAt e 28 (be 8 (x .«last_position»)) →
-      g ≡ putAt f 36 (be 8 (x .generation)) →
-      h ≡ putAt g 44 (be 8 (x .«next_sequence_number»)) →
-      h ≡ slotFields x ++ zeros 4
-  fields-laid pa pb pc pd pe pf pg ph =
-      let a = putAt-behind [] (zeros 4) (zeros 52) magic refl refl pa in
-      let b = putAt-behind magic (zeros 4) (zeros 48) version refl a pb in
-      let c = putAt-behind slotStart (zeros 8) (zeros 40) (be 8 (x .«file_length»)) refl b pc in
+  pub fields-laid : {a b c d e f g : List ℕ} →
+      a ≡ putAt (zeros 56) 0 slotStart →
+      b ≡ putAt a 8 (be 8 (x .«file_length»)) →
+      c ≡ putAt b 16 (be 4 (x .«element_count»)) →
+      d ≡ putAt c 20 (be 8 (x .«first_position»)) →
+      e ≡ putAt d 28 (be 8 (x .«last_position»)) →
+      f ≡ putAt e 36 (be 8 (x .generation)) →
+      g ≡ putAt f 44 (be 8 (x .«next_sequence_number»)) →
+      g ≡ slotFields x ++ zeros 4
+  fields-laid pa pb pc pd pe pf pg =
+      let a = putAt-behind [] (zeros 8) (zeros 48) slotStart refl refl pa in
+      let b = putAt-behind slotStart (zeros 8) (zeros 40) (be 8 (x .«file_length»)) refl a pb in
       let upToLength : List ℕ = slotStart ++ be 8 (x .«file_length») in
-      let d = putAt-behind upToLength (zeros 4) (zeros 36) (be 4 (x .«element_count»)) refl c pd in
+      let c = putAt-behind upToLength (zeros 4) (zeros 36) (be 4 (x .«element_count»)) refl b pc in
       let upToCount : List ℕ = upToLength ++ be 4 (x .«element_count») in
-      let e = putAt-behind upToCount (zeros 8) (zeros 28) (be 8 (x .«first_position»)) refl d pe in
+      let d = putAt-behind upToCount (zeros 8) (zeros 28) (be 8 (x .«first_position»)) refl c pd in
       let upToFirst : List ℕ = upToCount ++ be 8 (x .«first_position») in
-      let f = putAt-behind upToFirst (zeros 8) (zeros 20) (be 8 (x .«last_position»)) refl e pf in
+      let e = putAt-behind upToFirst (zeros 8) (zeros 20) (be 8 (x .«last_position»)) refl d pe in
       let upToLast : List ℕ = upToFirst ++ be 8 (x .«last_position») in
-      let g = putAt-behind upToLast (zeros 8) (zeros 12) (be 8 (x .generation)) refl f pg in
+      let f = putAt-behind upToLast (zeros 8) (zeros 12) (be 8 (x .generation)) refl e pf in
       let upToGeneration : List ℕ = upToLast ++ be 8 (x .generation) in
-      putAt-behind upToGeneration (zeros 8) (zeros 4) (be 8 (x .«next_sequence_number»)) refl g ph
+      putAt-behind upToGeneration (zeros 8) (zeros 4) (be 8 (x .«next_sequence_number»)) refl f pg

@@ -8,6 +8,9 @@ use refusal::Verdict;
 // Where the ring of elements starts in the file.
 pub const V2_DATA_START: u64 = 8192;
 
+// The bytes that a slot begins with: the magic bytes, version 2, three zeros.
+const SLOT_START: [u8; 8] = *b"QFMH\x02\x00\x00\x00";
+
 // The bytes of a slot.
 pub const V2_SLOT_LEN: u64 = 56;
 
@@ -76,8 +79,7 @@ pub fn build_slot_bytes(data: SlotData) -> [u8; 56]
     ensures { λ r. ⌜ r ≡ slotBytes «data» ⌝ }
 {
     let mut slot = [0u8; 56];
-    wire::put(&mut slot, 0, b"QFMH");
-    wire::put(&mut slot, 4, b"\x02\x00\x00\x00");
+    wire::put(&mut slot, 0, &SLOT_START);
     wire::put_u64(&mut slot, 8, data.file_length);
     wire::put_u32(&mut slot, 16, data.element_count);
     wire::put_u64(&mut slot, 20, data.first_position);
@@ -161,7 +163,7 @@ pub fn parse_slot(s: &[u8]) -> ParsedSlot
     if s.len() < 56 {
         return ParsedSlot::Refused(Refusal::SHORT);
     }
-    if !wire::starts_with(s, b"QFMH\x02\x00\x00\x00") {
+    if !wire::starts_with(s, &SLOT_START) {
         return ParsedSlot::Refused(Refusal::NOT_A_SLOT);
     }
     let data = read_slot(s);

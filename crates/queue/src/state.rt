@@ -163,7 +163,7 @@ impl QueueFile {
         Count::Bytes(self.used(image_len))
     }
 
-    // The bytes of the file that are not.
+    // The bytes of the file that are not in use.
     pub fn remaining_bytes(self, image_len: u64) -> Count
         ensures { λ r. ⌜ r ≡ judgeRemaining self «image_len» ⌝ }
     {

@@ -11,7 +11,7 @@ use lib.Arith.{digits-div, digits-mod}
 use lib.Dec.{eqb}
 use lib.ListN.{length, getD, take, drop, length-append}
 use lib.Seq.{drop-cons}
-use borrow.Author.Tests.{eqb-true, eq-eqb}
+use borrow.Author.Tests.{eqb-true}
 use Rattle.wire.specs.Wire.{Bytes, be, beOnto, beVal, bytesAt, word, startsWith}
 
 -- ---- bytes
@@ -157,8 +157,3 @@ startsWith-take [] (x ∷ p) e = let z : _≡_ {A = ℕ} 0 1 = cc in absurd (ome
 startsWith-take (y ∷ s) (x ∷ p) e =
     let b = and-eq-true-iff (eqb y x) (startsWith s p) .0 e in
     rw (eqb-true y x (b .0), startsWith-take s p (b .1))
-
--- and what stands at the front is what it begins with
-pub startsWith-append : (p s : List ℕ) → startsWith (p ++ s) p ≡ true
-startsWith-append [] s = refl
-startsWith-append (x ∷ p) s = rw (eq-eqb x x refl) (startsWith-append p s)

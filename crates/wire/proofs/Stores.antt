@@ -2,15 +2,14 @@
 use mathlib.Core.Path.{_≡_, refl, sym, ap, _∙_}
 use mathlib.Core.Logic.{_⊎_, inl, inr}
 use mathlib.Core.List.{List, [], _∷_, _++_, append-assoc, append-nil}
-use Prim.Native.Nat.{ℕ, zero, suc, _+_, _-_, _^_, _≤_, _<_}
+use Prim.Native.Nat.{ℕ, zero, suc, _+_, _-_, _≤_, _<_}
 use native.Mathlib.Nat.{add-zero, zero-add, suc-add, add-suc}
 use native.Mathlib.Numerals.{add-one}
 use native.Mathlib.Omega.{arith}
 use lib.ListN.{length, getD, take, drop, set, length-set, length-drop, length-append, take-append-drop, drop-of-length-le, replicate, length-replicate, replicate-append-replicate}
 use lib.Seq.{sets-eq, length-sets, drop-drop, length-take-le, set-out, getD-set-same, getD-set-other, take-all, take-set-le, drop-set-add, take-append-seam, drop-append-seam, drop-append-add}
 use borrow.Rule.Slice.PartMut.{midOf, postOf, putMid, same-len-mid}
-use Rattle.wire.specs.Wire.{Bytes, be, bytesAt, word, beVal, putAt}
-use Rattle.wire.proofs.Numbers.{length-be, beVal-be}
+use Rattle.wire.specs.Wire.{Bytes, bytesAt, putAt}
 
 -- stores past the end go nowhere
 pub putAt-out : (out : List ℕ) (at : ℕ) (src : List ℕ) → length out ≤ at → putAt out at src ≡ out
@@ -62,12 +61,6 @@ bytesAt-putAt out at (b ∷ src) h =
     let l : at < length out = omega arith in
     let first : getD (putAt (set out at b) (suc at) src) at 0 ≡ b = putAt-before (set out at b) (suc at) src at (omega arith) ∙ getD-set-same out at b 0 l in
     rw (first, add-one) (ap (λ (r : List ℕ). b ∷ r) (bytesAt-putAt (set out at b) (suc at) src (rw length-set (omega arith))))
-
--- a number that fits w bytes is read back where its bytes were stored
-pub word-putAt : (w : ℕ) (out : List ℕ) (at n : ℕ) → n < 256 ^ w → at + w ≤ length out → word w (putAt out at (be w n)) at ≡ n
-word-putAt w out at n h l =
-    let k : bytesAt (length (be w n)) (putAt out at (be w n)) at ≡ be w n = bytesAt-putAt out at (be w n) (rw length-be l) in
-    ap beVal (rw length-be at k) ∙ beVal-be w n h
 
 -- a store in the part from `from` on is a store in the whole
 pub putAt-part : (out : List ℕ) (from at : ℕ) (src : List ℕ) → take from out ++ putAt (drop from out) at src ≡ putAt out (from + at) src

@@ -93,7 +93,7 @@ pub(crate) fn judge_commit(q: QueueFile, image_len: u64) -> Verdict
     judge_numbers(q, 1, 0)
 }
 
-// Commits the state.
+// Commits the state, where it is sound and its generation can rise.
 pub fn commit(q: QueueFile, image: &mut [u8]) -> Changed
     ensures { λ r. ⌜ (r, now (image .exit)) ≡ commitOf q (now (image .entry)) ⌝ }
 {

@@ -18,15 +18,6 @@ slice-aggregate-put-2 c = search needs
 put-requires : tie.Need-put-requires
 put-requires c κs = search needs
 
-slice-aggregate-put-3 : tie.Need-slice-aggregate-put-3
-slice-aggregate-put-3 c = search needs
-
-slice-aggregate-put-4 : tie.Need-slice-aggregate-put-4
-slice-aggregate-put-4 c = search needs
-
-put-requires-2 : tie.Need-put-requires-2
-put-requires-2 c κs = search needs
-
 slice-aggregate-put-u64 : tie.Need-slice-aggregate-put-u64
 slice-aggregate-put-u64 c = search needs
 
@@ -80,28 +71,26 @@ put-u32-requires-2 c κs = search needs
 
 returns : tie.Need-returns
 returns c =
-    let p10 = c .before in
-    let p9 = p10 .before .before in
-    let p8 = p9 .before .before .before in
+    let p9 = c .before in
+    let p8 = p9 .before .before in
     let p7 = p8 .before .before .before in
     let p6 = p7 .before .before .before in
     let p5 = p6 .before .before .before in
     let p4 = p5 .before .before .before in
     let p3 = p4 .before .before .before in
     let p2 = p3 .before .before .before in
-    let p1 = p2 .before .before .before .before in
+    let p1 = p2 .before .before .before in
     let d = p1 .before .before .before .args .«data» in
     let fields =
     fields-laid d
     (p1 .put .ensures)
-    (p2 .put2 .ensures)
-    (p3 .put-u64 .ensures)
-    (p4 .put-u32 .ensures)
-    (p5 .put-u642 .ensures)
-    (p6 .put-u643 .ensures)
-    (p7 .put-u644 .ensures)
-    (p8 .put-u645 .ensures) in
-    sealed crcOf (slotFields d) fields (p9 .crc32 .ensures) (p10 .put-u322 .ensures)
+    (p2 .put-u64 .ensures)
+    (p3 .put-u32 .ensures)
+    (p4 .put-u642 .ensures)
+    (p5 .put-u643 .ensures)
+    (p6 .put-u644 .ensures)
+    (p7 .put-u645 .ensures) in
+    sealed crcOf (slotFields d) fields (p8 .crc32 .ensures) (p9 .put-u322 .ensures)
 
 pub build-slot-bytes-spec : {M : Type 1} → statement M
 build-slot-bytes-spec =
@@ -110,9 +99,6 @@ build-slot-bytes-spec =
     slice-aggregate-put
     slice-aggregate-put-2
     put-requires
-    slice-aggregate-put-3
-    slice-aggregate-put-4
-    put-requires-2
     slice-aggregate-put-u64
     put-u64-requires
     slice-aggregate-put-u32

@@ -6,7 +6,6 @@ use borrow.Author.Needs.{needs}
 use borrow.Author.Tests.{le-leb}
 use Rattle.refusal.proofs.Laws.{decide, met, flag-yes}
 use Rattle.ring.specs.Ring.{Segment, partsOf}
-use Rattle.ring.specs.declared.parts.Parts.{Parts}
 use Rattle.ring.specs.declared.parts.Parted.the-variants as Parted
 use Rattle.ring.proofs.Places.{ring-known}
 use Rattle.ring.proofs.Segments.{segment-min}
