@@ -1,29 +1,39 @@
 -- Peek and iteration read the elements where they stand. Assumes nothing.
-use mathlib.Core.Path.{_≡_, refl, sym, ap, _∙_}
+use mathlib.Core.Path.{_≡_, refl, sym, ap, subst, _∙_}
 use mathlib.Core.Bool.{Bool}
 use mathlib.Core.List.{List, [], _∷_}
 use Prim.Native.Nat.{ℕ, zero, suc, _+_, _-_, _%_, _≤_, _<_}
 use native.Mathlib.Nat.{mod-eq-of-lt, mod-lt, mod-add-mod}
 use native.Mathlib.Omega.{arith}
 use lib.ListN.{length}
+use lib.Seq.{length-sets}
+use denote.Ref.{RefT, now}
 use borrow.Author.Tests.{le-leb, lt-leb, lt-ltb, ne-eqb}
 use Rattle.refusal.specs.declared.Verdict as Verdicts
 use Rattle.refusal.specs.declared.Verdict.the-variants as Verdict
 use Rattle.refusal.proofs.Laws.{pass}
+use Rattle.wire.specs.Wire.{bytesAt, putAt}
+use Rattle.wire.proofs.Stores.{bytesAt-putAt}
+use Rattle.ring.specs.Ring.{ringRead}
+use Rattle.ring.proofs.Reading.{length-read}
 use Rattle.format.specs.declared.element.ParsedHeader.{ParsedHeader}
 use Rattle.queue.specs.Answers.{onHeader, onVerdict}
 use Rattle.queue.specs.Element.{capacity, elementHere, payloadAt, footerVerdict}
 use Rattle.queue.specs.State.{sound}
 use Rattle.queue.specs.Peek.{fitPeek, checkPeek, judgePeek}
-use Rattle.queue.specs.Iter.{cursorAt, stepHere, stepOn, judgeStep}
+use Rattle.queue.specs.Iter.{cursorAt, startOf, stepHere, stepOn, judgeStep, steppedOutput, cursorAfter}
 use Rattle.queue.specs.declared.element.Element.{Element}
 use Rattle.queue.specs.declared.state.QueueFile.{QueueFile}
 use Rattle.queue.specs.declared.peek.Peeked.the-variants as Peeked
+use Rattle.queue.specs.declared.iter.Cursor.{Cursor}
+use Rattle.queue.specs.declared.iter.Iter.{Iter}
+use Rattle.queue.specs.declared.iter.Step.{Step}
 use Rattle.queue.specs.declared.iter.Stepped as Answer
 use Rattle.queue.specs.declared.iter.Stepped.the-variants as Stepped
+use Rattle.queue.proofs.IterLaws.{step-known}
 use Rattle.writing.proofs.Choices.{chosen, left-out}
 use Rattle.assurance.specs.Held.{sequencesOf}
-use Rattle.assurance.specs.Reading.{upFrom, LinkedIsOneRun, firstPayload, PeekGivesFirst, handedStep, handed, IterationGivesAll}
+use Rattle.assurance.specs.Reading.{upFrom, LinkedIsOneRun, firstPayload, PeekGivesFirst, handedStep, handed, IterationGivesAll, readStep, readBy, ReaderGivesAll}
 use Rattle.assurance.proofs.Chain.{Elem, headerOf, span, total, Holds, Chain, Rising, header-there}
 use Rattle.assurance.proofs.Laid.{Laid, laid-sound, laid-some}
 use Rattle.assurance.proofs.TrailWalk.{payload-there, footer-there}
@@ -127,3 +137,45 @@ iteration-gives-all img q room steps w wide enough =
     ∙ all img q room (laid-sound img q (u .e) (u .es) k) wide (omega (arith, k .first-low)) (u .e ∷ u .es) 0 (q .first .pos) steps (k .holds)
     (k .fits) (omega (arith, k .count)) (omega (arith, k .count))
     ∙ sym (laid-elements img q (u .e) (u .es) k)
+
+-- ---- iteration by a reader
+
+module _ (image : RefT (List ℕ)) (q : QueueFile) where
+  abbrev file : ℕ
+  file = q .«file_len»
+
+  abbrev from : Cursor → Iter
+  from c = record { image = image; state = q; cursor = c }
+
+  -- what was put at the output's front is read there: there is room for it
+  front : (c : Cursor) (out : List ℕ) (s : Step) → judgeStep q (now image) c (length out) ≡ Stepped.Element s
+      → bytesAt (s .elem .len) (putAt out 0 (payloadAt (now image) file (s .elem))) 0 ≡ payloadAt (now image) file (s .elem)
+  unfolding payloadAt
+  front c out s e =
+      let p : List ℕ = ringRead 8192 (capacity file) (now image) (s .elem .pos + 28) (s .elem .len) in
+      let n : length p ≡ s .elem .len = length-read 8192 (capacity file) (now image) (s .elem .pos + 28) (s .elem .len) in
+      ap (λ (w : ℕ). bytesAt w (putAt out 0 p) 0) (sym n)
+      ∙ bytesAt-putAt out 0 p (omega (arith, n, step-known q (now image) c (length out) s e .1))
+
+  -- a step of the reader is a step from its cursor; ih: so is each after it
+  step-read : (c : Cursor) (out : List ℕ) (left : ℕ) (a : Answer.Stepped) → judgeStep q (now image) c (length out) ≡ a
+      → ((c′ : Cursor) (out′ : List ℕ) → length out′ ≡ length out → readBy (from c′) out′ left ≡ handed q (now image) (length out) left c′)
+      → readStep a (steppedOutput a (now image) file out) (readBy (from (cursorAfter a c)) (steppedOutput a (now image) file out) left)
+      ≡ handedStep (now image) file a (handed q (now image) (length out) left)
+  step-read c out left (Stepped.Element s) e ih =
+      let p : List ℕ = payloadAt (now image) file (s .elem) in
+      λ i. record { place = s .elem .pos; seq = s .elem .seq; back = s .«prev_pos»; payload = front c out s e i }
+      ∷ ih (s .next) (putAt out 0 p) (length-sets out 0 p) i
+  step-read c out left Stepped.End e ih = refl
+  step-read c out left (Stepped.Refused r) e ih = refl
+
+  read-handed : (room steps : ℕ) (c : Cursor) (out : List ℕ) → length out ≡ room → readBy (from c) out steps ≡ handed q (now image) room steps c
+  unfolding readBy handed
+  read-handed room zero c out l = refl
+  read-handed room (suc left) c out l =
+      subst (λ (r : ℕ). readBy (from c) out (suc left) ≡ handedStep (now image) file (judgeStep q (now image) c r) (handed q (now image) r left)) l
+      (step-read c out left (judgeStep q (now image) c (length out)) refl (λ c′ out′ l′. read-handed (length out) left c′ out′ l′))
+
+pub reader-gives-all : ReaderGivesAll
+reader-gives-all image q out steps w wide enough =
+    read-handed image q (length out) steps (startOf q) out refl ∙ iteration-gives-all (now image) q (length out) steps w wide enough

@@ -1,7 +1,9 @@
 -- Each call that is told of can be refused: over an image of no bytes, which holds no file; and a word of no bytes spells none.
 -- Assumes nothing.
+use Prim.Native.Nat.{ℕ}
 use mathlib.Core.Path.{_≡_, refl}
-use mathlib.Core.List.{[]}
+use mathlib.Core.List.{List, []}
+use denote.Ref.{RefT}
 use Rattle.refusal.specs.Demand.{demand}
 use Rattle.refusal.specs.Table.{plain}
 use Rattle.refusal.specs.declared.Verdict.the-variants as Verdict
@@ -9,7 +11,7 @@ use Rattle.ring.specs.Ring.{hasRing, judgeRing, judgeRelocation}
 use Rattle.queue.specs.State.{soundLengths, sound}
 use Rattle.queue.specs.Opening.{openState, openQueue}
 use Rattle.queue.specs.Peek.{fitPeek, judgePeek}
-use Rattle.queue.specs.Iter.{startOf, judgeStep}
+use Rattle.queue.specs.Iter.{startOf, judgeStep, readerOf, nextOf}
 use Rattle.queue.specs.declared.peek.Peeked.the-variants as Peeked
 use Rattle.queue.specs.declared.iter.Stepped.the-variants as Stepped
 use Rattle.writing.specs.Commit.{judgeCommit, commitOf}
@@ -23,6 +25,7 @@ use Rattle.exports.specs.Runs.{addsOf, removesOf, clearsOf, peeksOf, stepsOf}
 use Rattle.script.specs.Hex.{isDash, isHex, unhex, bytesOf}
 use Rattle.script.specs.declared.hex.Bytes.the-variants as Bytes
 use Rattle.assurance.specs.ChangeSamples.{settings, none}
+use Rattle.assurance.specs.Refusals.{nextRefused}
 
 pub fresh-refused : freshOf 8280 settings [] ≡ (Changed.Refused (plain 26), [])
 unfolding demand freshOf
@@ -55,6 +58,14 @@ peek-refused = refl
 pub step-refused : judgeStep none [] (startOf none) 0 ≡ Stepped.Refused (plain 28)
 unfolding demand soundLengths sound judgeStep
 step-refused = refl
+
+-- a reader of no bytes, wherever these are
+abbrev noBytes : RefT (List ℕ)
+noBytes = record { ptr = (0, 0); name = 0; now = [] }
+
+pub next-refused : nextOf (readerOf noBytes none) 0 ≡ nextRefused (plain 28, readerOf noBytes none)
+unfolding demand soundLengths sound judgeStep
+next-refused = refl
 
 pub ring-refused : judgeRing 8192 0 8280 ≡ Verdict.Refused (plain 28)
 unfolding demand hasRing

@@ -17,8 +17,10 @@ use Rattle.wire.specs.Wire.{putAt}
 use Rattle.queue.specs.Answers.{onVerdict}
 use Rattle.queue.specs.Element.{payloadAt}
 use Rattle.queue.specs.Peek.{judgePeek, peekedOutput}
-use Rattle.queue.specs.Iter.{startOf, judgeStep, steppedOutput}
+use Rattle.queue.specs.Iter.{startOf, judgeStep, steppedOutput, cursorAfter, nextOf, nextOutput}
 use Rattle.queue.specs.declared.element.Element.{Element}
+use Rattle.queue.specs.declared.iter.Iter.{Iter}
+use Rattle.queue.specs.declared.iter.Next.{Next}
 use Rattle.queue.specs.declared.state.Settings.{Settings}
 use Rattle.queue.specs.declared.state.QueueFile.{QueueFile}
 use Rattle.queue.specs.declared.opening.Opened as Opening
@@ -47,7 +49,7 @@ use Rattle.exports.specs.Runs.{Run, onOpened, opened, onChanged, runFrom, runOf
 use Rattle.script.specs.Hex.{isDash, isHex, unhex, bytesOf}
 use Rattle.script.specs.declared.hex.Bytes.{Bytes}
 use Rattle.script.specs.declared.hex.Bytes.the-variants as Spelt
-use Rattle.assurance.specs.Refusals.{RefusalsChangeNothing}
+use Rattle.assurance.specs.Refusals.{nextRefused, RefusalsChangeNothing}
 
 -- ---- what changes a queue
 
@@ -136,6 +138,19 @@ unfolding bytesOf
 bytes-keep word out out′ =
     spelt ((isDash word || isHex word) && (leb (length (unhex word)) 262144 && leb (length (unhex word)) (length out)))
     (length (unhex word)) (unhex word ++ drop (length (unhex word)) out) out out′
+
+-- ---- a reader's step
+
+-- what is refused is the answer that the output and the reader come of
+next-keeps : (it : Iter) (out : List ℕ) (x : Refusal × Iter) (s : List ℕ) →
+    nextRefused x ≡ nextOf it (length out) → s ≡ nextOutput it out → s ≡ out
+next-keeps it out x s e e′ =
+    e′ ∙ ap (λ (n : Next). steppedOutput (n .stepped) (it .image .now) (it .state .«file_len») out) (sym e)
+
+reader-stays : (it : Iter) (room : ℕ) (x : Refusal × Iter) → nextRefused x ≡ nextOf it room → x .1 ≡ it
+reader-stays it room x e =
+    ap (λ (n : Next). n .iter) e
+    ∙ ap (λ (n : Next). record { image = it .image; state = it .state; cursor = cursorAfter (n .stepped) (it .cursor) }) (sym e)
 
 -- ---- a verdict's number
 
@@ -244,6 +259,8 @@ refusals-change-nothing =
       «queue::QueueFile::peek_into» = λ self image out x s p. p .1;
       «queue::QueueFile::step» = λ self image cursor out x s p. p .1;
       the-cursor = λ cursor x. refl;
+      «queue::Iter::next» = λ self out x s p. next-keeps self out x s (p .0) (p .1);
+      the-reader = reader-stays;
       «writing::fresh» = λ image «file_len» settings x s p. fresh-keeps «file_len» settings image s x (sym p);
       «writing::commit» = λ q image x s p. commit-keeps q image s x (sym p);
       «writing::add» = λ q image payload x s p. add-keeps q payload image s x (sym p);

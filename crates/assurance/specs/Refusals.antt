@@ -1,7 +1,7 @@
 -- A refusal changes nothing. Each public function that is lent bytes to write and has an answer has a line below, by the names of its
 -- crate and itself, with its promise word for word as in OneAnswer: what keeps the promise and is a refusal leaves the bytes as they were.
 -- `.ci/contracts` holds each line to its promise, and sees that no such function is left out. A state or a cursor goes in by value, so that
--- the caller's own stays as it is whatever is answered; what a cursor is after a step has a line too. Assumes nothing.
+-- the caller's own stays as it is whatever is answered; what a cursor is after a step, and a reader, has a line too. Assumes nothing.
 use Prim.Native.Nat.{ℕ, suc, _-_}
 use mathlib.Core.Path.{_≡_}
 use mathlib.Core.List.{List}
@@ -16,12 +16,14 @@ use Rattle.script.specs.declared.hex.Bytes.the-variants as Spelt
 use Rattle.ring.specs.Ring.{ringRead, ringWrite, ringErase, relocated, judgeRing, judgeRelocation}
 use Rattle.queue.specs.Element.{payloadAt}
 use Rattle.queue.specs.Peek.{judgePeek, peekedOutput}
-use Rattle.queue.specs.Iter.{judgeStep, steppedOutput, cursorAfter}
+use Rattle.queue.specs.Iter.{judgeStep, steppedOutput, cursorAfter, nextOf, nextOutput}
 use Rattle.queue.specs.declared.state.Settings.{Settings}
 use Rattle.queue.specs.declared.state.QueueFile.{QueueFile}
 use Rattle.queue.specs.declared.peek.Peeked.{Peeked}
 use Rattle.queue.specs.declared.peek.Peeked.the-variants as Peeks
 use Rattle.queue.specs.declared.iter.Cursor.{Cursor}
+use Rattle.queue.specs.declared.iter.Iter.{Iter}
+use Rattle.queue.specs.declared.iter.Next.{Next}
 use Rattle.queue.specs.declared.iter.Stepped.{Stepped}
 use Rattle.queue.specs.declared.iter.Stepped.the-variants as Steps
 use Rattle.writing.specs.Commit.{commitOf}
@@ -37,6 +39,10 @@ use Rattle.exports.specs.Runs.{addsOf, removesOf, clearsOf, peeksOf, stepsOf}
 -- of a promise P: with a refusal, whichever, the bytes are the old ones
 abbrev pub Unchanged : {A X : Type 0} → (X → A) → List ℕ → (A → List ℕ → Type 0) → Type 0
 Unchanged {X = X} refuse old P = (x : X) (s : List ℕ) → P (refuse x) s → s ≡ old
+
+-- a reader's step that is refused, with a reader beside it, whichever
+abbrev pub nextRefused : Refusal × Iter → Next
+nextRefused x = record { stepped = Steps.Refused (x .0); iter = x .1 }
 
 pub record RefusalsChangeNothing : Type 0 where
   -- it refuses in one way, without a number
@@ -74,6 +80,12 @@ pub record RefusalsChangeNothing : Type 0 where
       (r ≡ judgeStep self image cursor (length out))
       × (out′ ≡ steppedOutput r image (self .«file_len») out))
   pub the-cursor : (cursor : Cursor) (x : Refusal) → cursorAfter (Steps.Refused x) cursor ≡ cursor
+  pub «queue::Iter::next» :
+      (self : Iter) (out : List ℕ) →
+      Unchanged nextRefused out (λ (r : Next) (out′ : List ℕ).
+      (r ≡ nextOf self (length out))
+      × (out′ ≡ nextOutput self out))
+  pub the-reader : (self : Iter) (room : ℕ) (x : Refusal × Iter) → nextRefused x ≡ nextOf self room → x .1 ≡ self
   pub «writing::fresh» :
       (image : List ℕ) («file_len» : ℕ) (settings : Settings) →
       Unchanged Changes.Refused image (λ (r : Changed) (image′ : List ℕ). (r, image′) ≡ freshOf «file_len» settings image)

@@ -11,3 +11,4 @@ pub mod OpenLaws
 pub mod Trail
 pub mod PeekLaws
 pub mod IterLaws
+pub mod ByHand

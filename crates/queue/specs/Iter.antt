@@ -4,6 +4,7 @@ use mathlib.Core.Bool.{cond}
 use mathlib.Core.List.{List}
 use lib.ListN.{length}
 use lib.Dec.{ltb, leb}
+use denote.Ref.{RefT, now}
 use Rattle.refusal.specs.Table.{none, unsound, outputTooSmall}
 use Rattle.refusal.specs.Demand.{demand}
 use Rattle.refusal.specs.declared.Refusal.{Refusal}
@@ -16,6 +17,8 @@ use Rattle.queue.specs.Element.{capacity, elementHere, headerAt, payload
 use Rattle.queue.specs.State.{sound}
 use Rattle.queue.specs.declared.state.QueueFile.{QueueFile}
 use Rattle.queue.specs.declared.iter.Cursor.{Cursor}
+use Rattle.queue.specs.declared.iter.Iter.{Iter}
+use Rattle.queue.specs.declared.iter.Next.{Next}
 use Rattle.queue.specs.declared.iter.Step.{Step}
 use Rattle.queue.specs.declared.iter.Stepped.{Stepped}
 use Rattle.queue.specs.declared.iter.Stepped.the-variants.{Element, End, Refused}
@@ -70,3 +73,23 @@ abbrev pub steppedRefusal : Stepped → Refusal
 steppedRefusal (Element s) = none
 steppedRefusal End = none
 steppedRefusal (Refused r) = r
+
+-- a reader of an image: it starts at first, as iteration does
+abbrev pub readerOf : RefT (List ℕ) → QueueFile → Iter
+readerOf image q = record { image = image; state = q; cursor = startOf q }
+
+-- the answer at a reader's place, for an output of `room` bytes
+abbrev pub nextAnswer : Iter → ℕ → Stepped
+nextAnswer it room = judgeStep (it .state) (now (it .image)) (it .cursor) room
+
+-- that answer, and the reader then: the same image and state, and the cursor after the answer
+abbrev pub nextOf : Iter → ℕ → Next
+nextOf it room =
+    record {
+      stepped = nextAnswer it room;
+      iter = record { image = it .image; state = it .state; cursor = cursorAfter (nextAnswer it room) (it .cursor) };
+    }
+
+-- the output then, as after a step
+abbrev pub nextOutput : Iter → List ℕ → List ℕ
+nextOutput it out = steppedOutput (nextAnswer it (length out)) (now (it .image)) (it .state .«file_len») out

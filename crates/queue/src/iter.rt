@@ -1,7 +1,7 @@
 // Iteration: one element a step, from first on. What remembers the place is a cursor, which the caller keeps.
 ghost use mathlib.Core.Path.{_≡_};
 ghost use lib.ListN.{length};
-ghost use Rattle.queue.specs.Iter.{startOf, steppedRefusal, cursorAfter, judgeStep, steppedOutput};
+ghost use Rattle.queue.specs.Iter.{startOf, steppedRefusal, cursorAfter, judgeStep, steppedOutput, readerOf, nextOf, nextOutput};
 use crate::element::Element;
 use crate::element::header_at;
 use crate::element::read_payload;
@@ -116,5 +116,45 @@ impl QueueFile {
                 next_elem_pos: places::add(image.len() as u64, self.file_len, elem.pos, span),
             },
         })
+    }
+}
+
+// A reader that remembers its place. It borrows the image, so that nothing is stored there as long as it is used.
+pub struct Iter<'a> {
+    pub image: &'a [u8],
+    pub state: QueueFile,
+    pub cursor: Cursor,
+}
+
+// What a reader's step gives: the answer, and the reader to go on with.
+pub struct Next<'a> {
+    pub stepped: Stepped,
+    pub iter: Iter<'a>,
+}
+
+impl<'a> Iter<'a> {
+    // The reader at the first element.
+    pub fn new(image: &'a [u8], state: QueueFile) -> Iter<'a>
+        ensures { λ r. ⌜ r ≡ readerOf (image .entry) state ⌝ }
+    {
+        let cursor = state.iter();
+        Iter {
+            image,
+            state,
+            cursor,
+        }
+    }
+
+    // Hands out the element at the reader's place, as `step` does. Past a refusal or the end the reader does not go.
+    pub fn next(self, out: &mut [u8]) -> Next<'a>
+        ensures { λ r. ⌜ r ≡ nextOf (self .entry) (length (now (out .entry))) ⌝ }
+        ensures { λ _. ⌜ now (out .exit) ≡ nextOutput (self .entry) (now (out .entry)) ⌝ }
+    {
+        let stepped = self.state.step(self.image, self.cursor, out);
+        let cursor = stepped.cursor(self.cursor);
+        Next {
+            stepped,
+            iter: Iter { cursor, ..self },
+        }
     }
 }

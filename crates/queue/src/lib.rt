@@ -14,6 +14,8 @@ mod strict;
 pub use element::Element;
 pub use element::validate_v2_element_header;
 pub use iter::Cursor;
+pub use iter::Iter;
+pub use iter::Next;
 pub use iter::Step;
 pub use iter::Stepped;
 pub use opening::Opened;

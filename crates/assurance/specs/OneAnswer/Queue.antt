@@ -4,12 +4,13 @@ use mathlib.Core.Path.{_≡_}
 use mathlib.Core.Bool.{Bool}
 use mathlib.Core.List.{List}
 use lib.ListN.{length}
+use denote.Ref.{RefT}
 use Rattle.refusal.specs.declared.Refusal.{Refusal}
 use Rattle.format.specs.declared.element.ParsedHeader.{ParsedHeader}
 use Rattle.format.specs.declared.element.V2ElementHeader.{V2ElementHeader}
 use Rattle.ring.specs.declared.place.Placed.{Placed}
 use Rattle.queue.specs.Element.{elementHere, readHeader, payloadAt}
-use Rattle.queue.specs.Iter.{startOf, judgeStep, steppedOutput, cursorAfter, steppedRefusal}
+use Rattle.queue.specs.Iter.{startOf, judgeStep, steppedOutput, cursorAfter, steppedRefusal, readerOf, nextOf, nextOutput}
 use Rattle.queue.specs.Opening.{openQueue, openedRefusal}
 use Rattle.queue.specs.Peek.{judgePeek, peekedOutput, peekedRefusal, judgePeekPlace, peekedPart, peekedPlaceRefusal}
 use Rattle.queue.specs.Places.{toLogical}
@@ -18,6 +19,8 @@ use Rattle.queue.specs.State.{sound, judgeUsed, judgeRemaining, countRefusal}
 use Rattle.queue.specs.Strict.{openStrictly}
 use Rattle.queue.specs.declared.element.Element.{Element}
 use Rattle.queue.specs.declared.iter.Cursor.{Cursor}
+use Rattle.queue.specs.declared.iter.Iter.{Iter}
+use Rattle.queue.specs.declared.iter.Next.{Next}
 use Rattle.queue.specs.declared.iter.Stepped.{Stepped}
 use Rattle.queue.specs.declared.opening.Opened.{Opened}
 use Rattle.queue.specs.declared.peek.Peeked.{Peeked}
@@ -40,6 +43,12 @@ pub record QueueAnswers : Type 0 where
       NoSecondPair (λ (r : Stepped) (out′ : List ℕ).
       (r ≡ judgeStep self image cursor (length out))
       × (out′ ≡ steppedOutput r image (self .«file_len») out))
+  pub «Iter::new» : (image : RefT (List ℕ)) (state : QueueFile) → NoSecond (λ (r : Iter). r ≡ readerOf image state)
+  pub «Iter::next» :
+      (self : Iter) (out : List ℕ) →
+      NoSecondPair (λ (r : Next) (out′ : List ℕ).
+      (r ≡ nextOf self (length out))
+      × (out′ ≡ nextOutput self out))
   pub «Opened::refusal» : (self : Opened) → NoSecond (λ (r : Refusal). r ≡ openedRefusal self)
   pub «open» : (image : List ℕ) («real_len» : ℕ) (settings : Settings) → NoSecond (λ (r : Opened). r ≡ openQueue image «real_len» settings)
   pub «Peeked::refusal» : (self : Peeked) → NoSecond (λ (r : Refusal). r ≡ peekedRefusal self)
