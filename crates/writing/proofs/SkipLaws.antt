@@ -1,4 +1,5 @@
--- The walk that skips elements: one step of it, as the code counts it, and where it comes out. Assumes nothing.
+-- The walk that skips some elements, of more: that there are some, one step of it, as the code counts it, and where it comes out.
+-- Assumes nothing.
 use mathlib.Core.Path.{_≡_, refl}
 use mathlib.Core.List.{List}
 use Prim.Native.Nat.{ℕ, zero, suc, _-_, _<_}
@@ -14,6 +15,12 @@ use Rattle.queue.specs.declared.element.Element.{Element}
 use Rattle.writing.specs.Growth.{behind}
 use Rattle.writing.specs.Removal.{skipStep, skipFrom}
 use Rattle.writing.specs.declared.removal.Skipped.the-variants as Skipped
+
+-- ---- how many there are
+
+-- where there are more than n, there are some
+pub above-none : (n m : ℕ) → n < m → m ≡ 0 → ⊥
+above-none n m h e = omega (arith, h, e)
 
 -- ---- one step
 

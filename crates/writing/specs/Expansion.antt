@@ -13,7 +13,7 @@ use Rattle.ring.specs.Ring.{ringAdd, ringWrite, relocated}
 use Rattle.format.specs.Element.{elementSpan, encodeHeader}
 use Rattle.format.specs.declared.element.V2ElementHeader.{V2ElementHeader}
 use Rattle.format.specs.declared.element.ParsedHeader.{ParsedHeader}
-use Rattle.format.specs.declared.element.ParsedHeader.the-variants as Parsed
+use Rattle.queue.specs.Answers.{onHeader}
 use Rattle.queue.specs.Element.{element, capacity, headerAt}
 use Rattle.queue.specs.State.{sound}
 use Rattle.queue.specs.Opening.{withEnds}
@@ -50,9 +50,9 @@ relinkedHeader file old end img p h =
 
 -- a header at a time, in the new ring; after the walk each is valid, and one that is not would end it
 abbrev pub relinkStep : ℕ → ℕ → ℕ → List ℕ → ℕ → ParsedHeader → (List ℕ → ℕ → List ℕ) → List ℕ
-relinkStep file old end img p (Parsed.Refused r) rest = img
-relinkStep file old end img p (Parsed.Header h) rest =
-    rest (relinkedHeader file old end img p h) (ringAdd (capacity file) p (elementSpan (h .«payload_len»)))
+relinkStep file old end img p d rest =
+    onHeader (λ _. img) d (λ h.
+    rest (relinkedHeader file old end img p h) (ringAdd (capacity file) p (elementSpan (h .«payload_len»))))
 
 unfoldable pub relinkFrom : ℕ → ℕ → ℕ → ℕ → List ℕ → ℕ → List ℕ
 relinkFrom file old end zero img p = img

@@ -3,7 +3,7 @@ ghost use mathlib.Core.Path.{_≡_};
 ghost use Prim.Native.Nat.{_-_, _^_, _≤_, _<_};
 ghost use lib.ListN.{length};
 ghost use Rattle.ring.specs.Ring.{ringWrite};
-ghost use Rattle.writing.specs.Adding.{elementBytes, nextElement, withLast, appended, judgeAdd, addOf, Extends};
+ghost use Rattle.writing.specs.Adding.{elementBytes, nextPlace, nextElement, withLast, appended, judgeAdd, addOf, Extends};
 use crate::answer::Changed;
 use crate::committing::pointer_to;
 use crate::committing::sync_header;
@@ -63,21 +63,25 @@ fn write_element(
     ring::write_at(image, file_len, payload_start + len, &footer);
 }
 
+// The place behind last, or 0 in an empty queue.
+fn next_place(q: QueueFile) -> u64
+    requires { ⌜ Extends (q .«file_len») q ⌝ }
+    ensures { λ r. ⌜ r ≡ nextPlace q ⌝ }
+{
+    if q.elem_cnt == 0 {
+        return 0;
+    }
+    end_of_last(q)
+}
+
 // The element that comes next, with a payload of that length.
 fn next_element(q: QueueFile, payload_len: u64) -> Element
     requires { ⌜ Extends (q .«file_len») q ⌝ }
     ensures { λ r. ⌜ r ≡ nextElement q «payload_len» ⌝ }
 {
     let format = q.format;
-    if q.elem_cnt == 0 {
-        return Element {
-            pos: 0,
-            len: payload_len,
-            seq: format.next_seq,
-        };
-    }
     Element {
-        pos: end_of_last(q),
+        pos: next_place(q),
         len: payload_len,
         seq: format.next_seq,
     }

@@ -6,12 +6,12 @@ ghost use Rattle.writing.specs.Expansion.{lengthened, relinkedHeader, re
 use crate::answer::Changed;
 use crate::committing::sync_header;
 use crate::expanded_len::missing_from;
+use crate::growth::behind;
 use crate::growth::check_growth;
 use crate::growth::end_of_last;
 use crate::growth::judge_length;
 use crate::growth::wraps;
 use format::ParsedHeader;
-use format::V2_ELEM_OVERHEAD;
 use format::V2ElementHeader;
 use header::V2_DATA_START;
 use queue::Count;
@@ -23,8 +23,8 @@ use refusal::Refusal;
 fn lengthen(q: QueueFile, image: &mut [u8], new_len: u64) -> QueueFile
     ensures { λ r. ⌜ (r, now (image .exit)) ≡ lengthened «new_len» (q, now (image .entry)) ⌝ }
 {
-    let behind = missing_from(q.real_len, new_len);
-    wire::fill_at(image, q.real_len as usize, behind as usize, 0);
+    let missing = missing_from(q.real_len, new_len);
+    wire::fill_at(image, q.real_len as usize, missing as usize, 0);
     QueueFile {
         file_len: new_len,
         real_len: new_len,
@@ -61,7 +61,6 @@ fn relink(image: &mut [u8], file_len: u64, old_len: u64, end: u64, elem_cnt: u32
     requires { ⌜ (8192 ≤ «old_len») × («old_len» < 2 ^ 63) × («end» < 2 ^ 63) ⌝ }
     ensures { λ _. ⌜ now (image .exit) ≡ relinkFrom «file_len» «old_len» «end» «elem_cnt» (now (image .entry)) «first_pos» ⌝ }
 {
-    let capacity = file_len - V2_DATA_START;
     let mut pos = first_pos;
     for _ in 0..elem_cnt {
         let ParsedHeader::Header(header) = queue::validate_v2_element_header(image, file_len, pos)
@@ -69,7 +68,7 @@ fn relink(image: &mut [u8], file_len: u64, old_len: u64, end: u64, elem_cnt: u32
             return;
         };
         relink_header(image, file_len, old_len, end, pos, header);
-        pos = (pos + (header.payload_len + V2_ELEM_OVERHEAD)) % capacity;
+        pos = behind(file_len, Element::here(pos, header));
     }
 }
 

@@ -5,25 +5,33 @@ ghost use Prim.Native.Nat.{_≤_};
 ghost use lib.ListN.{length};
 ghost use Rattle.queue.specs.Element.{Lies};
 ghost use Rattle.queue.specs.State.{remainingBytes, sound};
-ghost use Rattle.writing.specs.Growth.{endOfLast, wrapped, commitsGrowth, growthCommits, withinImage, judgeLength, walkOldRing, checkGrowth, Planned};
+ghost use Rattle.writing.specs.Growth.{behind, endOfLast, wrapped, commitsGrowth, growthCommits, withinImage, judgeLength, walkOldRing, checkGrowth, Planned};
 use crate::committing::judge_numbers;
 use crate::expanded_len::compute_expanded_len;
 use format::ParsedHeader;
 use format::V2_ELEM_OVERHEAD;
 use header::V2_DATA_START;
 use queue::Count;
+use queue::Element;
 use queue::QueueFile;
 use refusal::Refusal;
 use refusal::Verdict;
+
+// The place behind an element.
+pub(crate) fn behind(file_len: u64, elem: Element) -> u64
+    requires { ⌜ Lies «file_len» «file_len» elem ⌝ }
+    ensures { λ r. ⌜ r ≡ behind «file_len» elem ⌝ }
+{
+    let capacity = file_len - V2_DATA_START;
+    (elem.pos + (elem.len + V2_ELEM_OVERHEAD)) % capacity
+}
 
 // The place behind last.
 pub(crate) fn end_of_last(q: QueueFile) -> u64
     requires { ⌜ Lies (q .«file_len») (q .«file_len») (q .last) ⌝ }
     ensures { λ r. ⌜ r ≡ endOfLast q ⌝ }
 {
-    let last = q.last;
-    let capacity = q.file_len - V2_DATA_START;
-    (last.pos + (last.len + V2_ELEM_OVERHEAD)) % capacity
+    behind(q.file_len, q.last)
 }
 
 // Whether elements stand at the ring's start that come behind those at its end: first is not before the end of last.
@@ -122,13 +130,12 @@ fn check_old_ring(q: QueueFile, image: &[u8]) -> Verdict
         let ParsedHeader::Header(header) = parsed else {
             return Verdict::Refused(parsed.refusal());
         };
-        let span = header.payload_len + V2_ELEM_OVERHEAD;
-        spans += span;
+        spans += header.payload_len + V2_ELEM_OVERHEAD;
         if spans > capacity {
             return Verdict::Refused(Refusal::UNSOUND);
         }
         before = pos;
-        pos = (pos + span) % capacity;
+        pos = behind(q.file_len, Element::here(pos, header));
     }
     if before != last.pos {
         return Verdict::Refused(Refusal::UNSOUND);

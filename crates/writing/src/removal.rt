@@ -10,8 +10,8 @@ use crate::answer::Changed;
 use crate::clearing::clear;
 use crate::committing::judge_numbers;
 use crate::committing::sync_header;
+use crate::growth::behind;
 use format::ParsedHeader;
-use format::V2_ELEM_OVERHEAD;
 use header::V2_DATA_START;
 use queue::Element;
 use queue::QueueFile;
@@ -29,14 +29,13 @@ fn skip_elements_from(image: &[u8], file_len: u64, n: u64, from: Element) -> Ski
     requires { ⌜ Lies (length (now image)) «file_len» from ⌝ }
     ensures { λ r. ⌜ r ≡ skipFrom (now (image .entry)) «file_len» n from ⌝ }
 {
-    let capacity = file_len - V2_DATA_START;
     let mut elem = from;
     let mut left = n;
     loop {
         if left == 0 {
             break Skipped::To(elem);
         }
-        let pos = (elem.pos + (elem.len + V2_ELEM_OVERHEAD)) % capacity;
+        let pos = behind(file_len, elem);
         let parsed = queue::validate_v2_element_header(image, file_len, pos);
         let ParsedHeader::Header(header) = parsed else {
             break Skipped::Refused(parsed.refusal());
@@ -62,7 +61,7 @@ fn zero_removed(q: QueueFile, image: &mut [u8], from: u64, to: u64)
 
 // Lets the queue go on at an element, n behind first.
 fn remove_to(q: QueueFile, image: &mut [u8], n: u64, elem: Element) -> Changed
-    requires { ⌜ (sound q (length (now image)) ≡ true) × (q .«elem_cnt» ≡ 0 → ⊥) × (n < q .«elem_cnt») × (elem .pos < q .«file_len» - 8192) ⌝ }
+    requires { ⌜ (sound q (length (now image)) ≡ true) × (n < q .«elem_cnt») × (elem .pos < q .«file_len» - 8192) ⌝ }
     ensures { λ r. ⌜ (r, now (image .exit)) ≡ removeTo q n (now (image .entry)) elem ⌝ }
 {
     if let Verdict::Refused(refusal) = judge_numbers(q, 1, 0) {
@@ -81,7 +80,7 @@ fn remove_to(q: QueueFile, image: &mut [u8], n: u64, elem: Element) -> Changed
 
 // Removes some elements, of more.
 fn remove_some(q: QueueFile, image: &mut [u8], n: u64) -> Changed
-    requires { ⌜ (sound q (length (now image)) ≡ true) × (q .«elem_cnt» ≡ 0 → ⊥) × (n < q .«elem_cnt») ⌝ }
+    requires { ⌜ (sound q (length (now image)) ≡ true) × (n < q .«elem_cnt») ⌝ }
     ensures { λ r. ⌜ (r, now (image .exit)) ≡ removeSome q n (now (image .entry)) ⌝ }
 {
     match skip_elements_from(image, q.file_len, n, q.first) {

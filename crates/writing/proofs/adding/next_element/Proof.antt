@@ -1,16 +1,13 @@
--- `writing::adding::next_element` meets its contract, in both cases of the count. Assumes nothing.
-use borrow.Author.Tests.{eq-eqb, ne-eqb}
+-- `writing::adding::next_element` meets its contract: its place is the one that comes next. Assumes nothing.
+use borrow.Author.Needs.{needs}
 use Rattle.writing.proofs.adding.next_element.Statement.{statement}
 use Rattle.writing.proofs.adding.next_element.Tie as tie
 
+next-place-requires : tie.Need-next-place-requires
+next-place-requires c κs = search needs
+
 returns : tie.Need-returns
-returns c = rw (eq-eqb _ _ (c .if1 .taken))
-
-end-of-last-requires : tie.Need-end-of-last-requires
-end-of-last-requires c κs = c .before .before .before .pre .last (c .if1 .left)
-
-returns-2 : tie.Need-returns-2
-returns-2 c = rw (ne-eqb _ _ (c .before .if1 .left), c .end-of-last .ensures)
+returns c = rw (c .next-place .ensures)
 
 pub next-element-spec : {M : Type 1} → statement M
-next-element-spec = tie.close (tie.spec returns end-of-last-requires returns-2)
+next-element-spec = tie.close (tie.spec next-place-requires returns)

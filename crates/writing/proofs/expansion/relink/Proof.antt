@@ -13,16 +13,13 @@ use Rattle.writing.proofs.expansion.relink.Statement.{statement}
 use Rattle.writing.proofs.expansion.relink.Tie as tie
 
 abbrev Inv-loop : tie.InvT-loop
-Inv-loop image₀ file-len old-len end elem-cnt first-pos capacity pos₀ counter₀ image pos counter =
+Inv-loop image₀ file-len old-len end elem-cnt first-pos pos₀ counter₀ image pos counter =
     (length image ≡ length image₀)
     × (pos < file-len - 8192)
     × (relinkFrom file-len old-len end elem-cnt image₀ first-pos ≡ relinkFrom file-len old-len end (elem-cnt - counter) image pos)
 
 abbrev μ-loop : tie.MeasureT-loop
-μ-loop image₀ file-len old-len end elem-cnt first-pos capacity pos₀ counter₀ image pos counter = elem-cnt - counter
-
-sub-capacity : tie.Need-sub-capacity Inv-loop μ-loop
-sub-capacity c = search needs
+μ-loop image₀ file-len old-len end elem-cnt first-pos pos₀ counter₀ image pos counter = elem-cnt - counter
 
 loop-holds : tie.Need-loop-holds Inv-loop μ-loop
 loop-holds c = (refl, c .before .pre .0 .3, rw sub-zero)
@@ -58,34 +55,26 @@ relink-header-requires c κs =
     let s = l .before .before in
     (s .pre .0 .0, rw (l .loop .inv .0) (s .pre .0 .1), s .pre .1 .0, s .pre .1 .1, s .pre .1 .2)
 
-add-pos : tie.Need-add-pos Inv-loop μ-loop
-add-pos c =
+here-requires : tie.Need-here-requires Inv-loop μ-loop
+here-requires c κs = search needs
+
+behind-requires : tie.Need-behind-requires Inv-loop μ-loop
+behind-requires c κs =
     let h = c .before .before .before .before .before .before in
     let v = h .before .before in
     let l = v .before .before .before in
     let s = l .before .before in
     let i = l .loop .inv in
-    let f =
-    header-fits (l .loop .image) _ (l .loop .pos) _
-    (header-there _ _ _ _ _ _ (s .pre .0 .0) (s .pre .0 .1) (i .0) (v .validate-v2-element-header .ensures) (h .header .given .1)) in
-    omega (arith, f, s .pre .0 .2)
-
-add-pos-2 : tie.Need-add-pos-2 Inv-loop μ-loop
-add-pos-2 c =
-    let h = c .before .before .before .before .before .before in
-    let v = h .before .before in
-    let l = v .before .before .before in
-    let s = l .before .before in
-    let i = l .loop .inv in
-    let f =
-    header-fits (l .loop .image) _ (l .loop .pos) _
-    (header-there _ _ _ _ _ _ (s .pre .0 .0) (s .pre .0 .1) (i .0) (v .validate-v2-element-header .ensures) (h .header .given .1)) in
-    omega (arith, f, i .1, s .pre .0 .2)
-
-rem-pos : tie.Need-rem-pos Inv-loop μ-loop
-rem-pos c =
-    let i = c .before .before .before .before .before .before .before .before .before .before .before .loop .inv in
-    omega (arith, i .1)
+    rw (c .here .ensures)
+    record {
+      some = s .pre .0 .0;
+      inside = omega arith;
+      small = s .pre .0 .2;
+      place = i .1;
+      span =
+          header-fits (l .loop .image) _ (l .loop .pos) _
+          (header-there _ _ _ _ _ _ (s .pre .0 .0) (s .pre .0 .1) (i .0) (v .validate-v2-element-header .ensures) (h .header .given .1));
+    }
 
 add-counter : tie.Need-add-counter Inv-loop μ-loop
 add-counter c = search needs
@@ -95,7 +84,7 @@ loop-less c = search needs
 
 loop-again : tie.Need-loop-again Inv-loop μ-loop
 loop-again c =
-    let r = c .before .before .before in
+    let r = c .before .before .before .before in
     let h = r .before .before .before in
     let v = h .before .before in
     let t = v .before .before in
@@ -103,12 +92,14 @@ loop-again c =
     let s = l .before .before in
     let i = l .loop .inv in (
       rw (r .relink-header .ensures) (length-relinked _ _ _ _ _ _ ∙ i .0),
-      mod-lt _ (omega (arith, i .1)),
+      rw (c .behind .ensures, c .before .here .ensures) (mod-lt _ (omega (arith, i .1))),
       rw (
         i .2,
         relink-unroll _ _ _ _ _ _ _ (t .loop-test .taken),
         header-there _ _ _ _ _ _ (s .pre .0 .0) (s .pre .0 .1) (i .0) (v .validate-v2-element-header .ensures) (h .header .given .1),
         r .relink-header .ensures,
+        c .behind .ensures,
+        c .before .here .ensures,
       ),
     )
 
@@ -129,7 +120,6 @@ relink-spec =
     (tie.spec
     Inv-loop
     μ-loop
-    sub-capacity
     loop-holds
     validate-v2-element-header-requires
     enum-known-header
@@ -137,9 +127,8 @@ relink-spec =
     same-length
     returns
     relink-header-requires
-    add-pos
-    add-pos-2
-    rem-pos
+    here-requires
+    behind-requires
     add-counter
     loop-less
     loop-again

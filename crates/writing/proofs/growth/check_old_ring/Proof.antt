@@ -65,8 +65,8 @@ returns c =
       e .enum-told .given .1,
     )
 
-add-span : tie.Need-add-span Inv-loop μ-loop
-add-span c =
+add-spans : tie.Need-add-spans Inv-loop μ-loop
+add-spans c =
     let q = c .before .before in
     let p = q .before .before in
     let l = p .before .before in
@@ -76,8 +76,8 @@ add-span c =
     let f = header-fits _ _ _ _ (r ∙ q .parsed .given .1) in
     omega (arith, h .2, f)
 
-add-spans : tie.Need-add-spans Inv-loop μ-loop
-add-spans c =
+add-spans-2 : tie.Need-add-spans-2 Inv-loop μ-loop
+add-spans-2 c =
     let q = c .before .before in
     let p = q .before .before in
     let l = p .before .before in
@@ -99,18 +99,15 @@ returns-2 c =
     let r = sym (header-read (now (s .args .image)) _ _ (h .0) (h .1)) ∙ sym (p .validate-v2-element-header .ensures) in
     rw (h .5, walk-unroll _ _ _ _ _ _ _ _ (t .loop-test .taken), r ∙ q .parsed .given .1, lt-leb _ _ (c .if1 .taken))
 
-add-pos : tie.Need-add-pos Inv-loop μ-loop
-add-pos c =
-    let l = c .before .before .before .before .before .before .before in
-    let h = l .loop .inv in
-    let f = c .if1 .left in
-    omega (arith, h .2, h .3, f)
+here-requires : tie.Need-here-requires Inv-loop μ-loop
+here-requires c κs = search needs
 
-rem-pos : tie.Need-rem-pos Inv-loop μ-loop
-rem-pos c =
-    let l = c .before .before .before .before .before .before .before in
-    let h = l .loop .inv in
-    omega (arith, h .0)
+behind-requires : tie.Need-behind-requires Inv-loop μ-loop
+behind-requires c κs =
+    let e = c .before in
+    let h = e .before .before .before .before .before .before .before .loop .inv in
+    let f = e .if1 .left in
+    rw (c .here .ensures) record { some = h .0; inside = omega arith; small = h .2; place = h .3; span = omega (arith, f) }
 
 add-counter : tie.Need-add-counter Inv-loop μ-loop
 add-counter c = search needs
@@ -121,7 +118,8 @@ loop-less c = search needs
 loop-again : tie.Need-loop-again Inv-loop μ-loop
 unfolding demand
 loop-again c =
-    let q = c .before .before .before in
+    let e = c .before .before in
+    let q = e .before .before .before in
     let p = q .before .before in
     let t = p .before in
     let l = t .before in
@@ -131,9 +129,16 @@ loop-again c =
       h .0,
       h .1,
       h .2,
-      mod-lt _ (omega (arith, h .0)),
-      c .if1 .left,
-      rw (h .5, walk-unroll _ _ _ _ _ _ _ _ (t .loop-test .taken), r ∙ q .parsed .given .1, le-leb _ _ (c .if1 .left)),
+      rw (c .behind .ensures, c .before .here .ensures) (mod-lt _ (omega (arith, h .0))),
+      e .if1 .left,
+      rw (
+        h .5,
+        walk-unroll _ _ _ _ _ _ _ _ (t .loop-test .taken),
+        r ∙ q .parsed .given .1,
+        le-leb _ _ (e .if1 .left),
+        c .behind .ensures,
+        c .before .here .ensures,
+      ),
     )
 
 returns-3 : tie.Need-returns-3 Inv-loop μ-loop
@@ -167,11 +172,11 @@ check-old-ring-spec =
     enum-told
     refusal-requires
     returns
-    add-span
     add-spans
+    add-spans-2
     returns-2
-    add-pos
-    rem-pos
+    here-requires
+    behind-requires
     add-counter
     loop-less
     loop-again

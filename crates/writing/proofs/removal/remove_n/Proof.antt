@@ -55,8 +55,7 @@ returns-4 c =
 remove-some-requires : tie.Need-remove-some-requires
 remove-some-requires c κs =
     let l = c .before in
-    let k = l .before .before in
-    let i = k .before .before .before in (flag-yes _ _ (i .before .is-sound .ensures) (i .if1 .left), k .if3 .left, l .if4 .left)
+    let i = l .before .before .before .before .before in (flag-yes _ _ (i .before .is-sound .ensures) (i .if1 .left), l .if4 .left)
 
 same-length-2 : tie.Need-same-length-2
 same-length-2 c = search needs

@@ -4,14 +4,14 @@ use mathlib.Core.Path.{sym, _∙_}
 use borrow.Author.Needs.{needs}
 use Rattle.queue.proofs.Sound.{first-lies}
 use Rattle.writing.specs.Removal.{removeSome}
-use Rattle.writing.proofs.SkipLaws.{skip-place}
+use Rattle.writing.proofs.SkipLaws.{above-none, skip-place}
 use Rattle.writing.proofs.removal.remove_some.Statement.{statement}
 use Rattle.writing.proofs.removal.remove_some.Tie as tie
 
 skip-elements-from-requires : tie.Need-skip-elements-from-requires
 skip-elements-from-requires c κs =
     let s = c .before .before in
-    first-lies _ _ (s .pre .0) (s .pre .1)
+    first-lies _ _ (s .pre .0) (above-none _ _ (s .pre .1))
 
 enum-known-elem : tie.Need-enum-known-elem
 enum-known-elem c = search needs
@@ -21,10 +21,9 @@ remove-to-requires c κs =
     let m = c .before .before in
     let k = m .before .before in
     let s = k .before .before .before in
-    let l = first-lies _ _ (s .pre .0) (s .pre .1) in (
+    let l = first-lies _ _ (s .pre .0) (above-none _ _ (s .pre .1)) in (
       s .pre .0,
       s .pre .1,
-      s .pre .2,
       skip-place _ _ _ _ _ (l .some) (l .place) (sym (k .skip-elements-from .ensures) ∙ m .elem .given .1),
     )
 

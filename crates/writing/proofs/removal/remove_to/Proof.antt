@@ -7,6 +7,7 @@ use Rattle.queue.proofs.Sound.{sound-numbers, first-lies, last-lies}
 use Rattle.writing.specs.Work.{Work, done}
 use Rattle.writing.specs.Commit.{committed}
 use Rattle.writing.specs.Removal.{removedZeroed, removeTo}
+use Rattle.writing.proofs.SkipLaws.{above-none}
 use Rattle.writing.proofs.removal.remove_to.Statement.{statement}
 use Rattle.writing.proofs.removal.remove_to.Tie as tie
 
@@ -37,10 +38,10 @@ sync-header-requires : tie.Need-sync-header-requires
 sync-header-requires c κs =
     let s = c .before .before .before .before .before .before .before .before .before .before in
     let m = sound-numbers _ _ (s .pre .0) in
-    let l = last-lies _ _ (s .pre .0) (s .pre .1) in
+    let l = last-lies _ _ (s .pre .0) (above-none _ _ (s .pre .1)) in
     record {
       generation = omega (arith, m .generation);
-      first = omega (arith, l .small, s .pre .3);
+      first = omega (arith, l .small, s .pre .2);
       last = omega (arith, l .small, l .place);
     }
 
@@ -50,9 +51,9 @@ zero-removed-requires c κs =
     let b = c .before .before in
     let y = b .before in
     let s = y .before .before .before .before .before .before .before .before .before .before .before in
-    let l = first-lies _ _ (s .pre .0) (s .pre .1) in
+    let l = first-lies _ _ (s .pre .0) (above-none _ _ (s .pre .1)) in
     let f = ap (λ (w : Work). w .0 .«file_len») (y .sync-header .ensures) in
-    rw f (l .some, omega (arith, l .inside, b .image .given), l .small, l .place, s .pre .3)
+    rw f (l .some, omega (arith, l .inside, b .image .given), l .small, l .place, s .pre .2)
 
 same-length : tie.Need-same-length
 same-length c = search needs

@@ -10,36 +10,22 @@ use Rattle.queue.specs.Element.{Lies}
 use Rattle.queue.proofs.Headers.{header-fits, header-read}
 use Rattle.writing.specs.Removal.{skipFrom}
 use Rattle.writing.proofs.SkipLaws.{skip-unroll}
+use Rattle.writing.proofs.StateLaws.{own-lies}
 use Rattle.writing.proofs.removal.skip_elements_from.Statement.{statement}
 use Rattle.writing.proofs.removal.skip_elements_from.Tie as tie
 
 abbrev Inv-loop : tie.InvT-loop
-Inv-loop image file-len n capacity elem₀ left₀ elem left =
+Inv-loop image file-len n elem₀ left₀ elem left =
     Lies (length image) file-len elem × (skipFrom image file-len n elem₀ ≡ skipFrom image file-len left elem)
 
 abbrev μ-loop : tie.MeasureT-loop
-μ-loop image file-len n capacity elem₀ left₀ elem left = left
-
-sub-capacity : tie.Need-sub-capacity Inv-loop μ-loop
-sub-capacity c = let z = c .before in omega (arith, z .pre .some)
+μ-loop image file-len n elem₀ left₀ elem left = left
 
 loop-holds : tie.Need-loop-holds Inv-loop μ-loop
 loop-holds c = (c .before .pre, refl)
 
-add-pos : tie.Need-add-pos Inv-loop μ-loop
-add-pos c =
-    let h = c .before .before .loop .inv .0 in
-    omega (arith, h .span, h .small)
-
-add-pos-2 : tie.Need-add-pos-2 Inv-loop μ-loop
-add-pos-2 c =
-    let h = c .before .before .before .loop .inv .0 in
-    omega (arith, h .place, h .span, h .small)
-
-rem-pos : tie.Need-rem-pos Inv-loop μ-loop
-rem-pos c =
-    let h = c .before .before .before .loop .inv .0 in
-    omega (arith, h .some)
+behind-requires : tie.Need-behind-requires Inv-loop μ-loop
+behind-requires c κs = own-lies _ _ _ (c .before .loop .inv .0)
 
 validate-v2-element-header-requires : tie.Need-validate-v2-element-header-requires Inv-loop μ-loop
 validate-v2-element-header-requires c κs = search needs
@@ -66,7 +52,8 @@ loop-again : tie.Need-loop-again Inv-loop μ-loop
 loop-again c =
     let q = c .before .before in
     let p = q .before .before in
-    let i = p .before .before .before in
+    let b = p .before in
+    let i = b .before in
     let l = i .before in
     let s = l .before .before in
     let h = l .loop .inv .0 in
@@ -76,10 +63,10 @@ loop-again c =
             some = h .some;
             inside = h .inside;
             small = h .small;
-            place = mod-lt _ (omega (arith, h .some));
+            place = rw (b .behind .ensures) (mod-lt _ (omega (arith, h .some)));
             span = header-fits _ _ _ _ r;
           },
-      rw (l .loop .inv .1, skip-unroll _ _ _ _ (i .if1 .left), r, c .here .ensures),
+      rw (l .loop .inv .1, skip-unroll _ _ _ _ (i .if1 .left), ← b .behind .ensures, r, c .here .ensures),
     )
 
 returns : tie.Need-returns Inv-loop μ-loop
@@ -92,7 +79,8 @@ returns-2 : tie.Need-returns-2 Inv-loop μ-loop
 returns-2 c =
     let e = c .before in
     let p = e .before .before in
-    let i = p .before .before .before in
+    let b = p .before in
+    let i = b .before in
     let l = i .before in
     let s = l .before .before in
     let h = l .loop .inv .0 in
@@ -100,6 +88,7 @@ returns-2 c =
       c .refusal .ensures,
       l .loop .inv .1,
       skip-unroll _ _ _ _ (i .if1 .left),
+      ← b .behind .ensures,
       sym (header-read (now (s .args .image)) _ _ (h .some) (h .inside)) ∙ sym (p .validate-v2-element-header .ensures),
       e .enum-told .given .1,
     )
@@ -110,11 +99,8 @@ skip-elements-from-spec =
     (tie.spec
     Inv-loop
     μ-loop
-    sub-capacity
     loop-holds
-    add-pos
-    add-pos-2
-    rem-pos
+    behind-requires
     validate-v2-element-header-requires
     enum-known-parsed
     enum-told
