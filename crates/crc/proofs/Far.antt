@@ -1,5 +1,5 @@
--- Folding by whole words: the places of the near copies times 64 serve as well, so that a word is added to words 145, 183, 211 and 300 words
--- behind it as it is. A list of the last 300 words that left says what is added to the next ones. Assumes nothing.
+-- Folding by whole bytes: the places of the near copies times 8 serve as well, so that a byte is added to bytes 145, 183, 211 and 300 bytes
+-- behind it as it is. A list of the last 300 bytes that left says what is added to the next ones. Assumes nothing.
 use mathlib.Core.Path.{_≡_, refl, sym, ap, ap₂, _∙_}
 use mathlib.Core.List.{List, [], _∷_, _++_}
 use Prim.Native.Nat.{ℕ, zero, suc, _+_, _-_, _*_, _^_, _≤_, _<_}
@@ -8,15 +8,16 @@ use native.Mathlib.Numerals.{add-one}
 use native.Mathlib.Omega.{arith}
 use lib.Pow.{pow-add}
 use lib.ListN.{length, getD, take, drop, set, replicate, length-drop, take-append-drop, replicate-append-replicate}
-use lib.Seq.{drop-drop, drop-append-le, drop-set-add, drop-set-lt, take-suc, take-suc-set, take-nil, length-take-le, getD-take, getD-drop, take-take}
+use lib.Seq.{drop-cons, drop-drop, drop-append-le, drop-set-add, drop-set-lt, take-suc, take-suc-set, take-nil, take-length, length-take-le, getD-take, getD-drop, take-take}
 use lib.Bits.{bitXor, xor-self, xor-zero-r}
-use Rattle.crc.specs.Crc.{shift, shifts, bytesIn}
-use Rattle.crc.specs.Words.{above, sum4, Same, Word, words, spread, reach, zeros}
-use Rattle.crc.proofs.Linear.{xor-assoc, sum4-eq, sum4-xor, sum4-square, shifts-xor, shifts-sum4, shifts-up, shifts-add, same-xor}
-use Rattle.crc.proofs.Words.{above-xor, above-sum4, above-zero, above-low, word-met}
+use Rattle.crc.specs.Crc.{shift, shifts, byteIn, bytesIn}
+use Rattle.crc.specs.Words.{above, sum4, Same, placed, spread, reach, zeros}
+use Rattle.crc.proofs.Linear.{xor-assoc, sum4-eq, sum4-xor, sum4-square, shifts-xor, shifts-sum4, shifts-up, shifts-add, bytes-append}
+use Rattle.crc.proofs.Words.{above-xor, above-sum4, above-zero, above-low, above-number, word-met}
+use Rattle.crc.proofs.Parts.{none-left}
 use Rattle.crc.proofs.Fold.{copies, folded}
 
--- ---- 1 with its far copies leaves nothing: the rule of the near copies is computed, and squared six times
+-- ---- 1 with its far copies leaves nothing: the rule of the near copies is computed, and squared three times
 
 -- n shifts of any state that 1 comes to are the sum of none, a, b and c shifts
 abbrev Sparse : ℕ → ℕ → ℕ → ℕ → Type 0
@@ -52,24 +53,20 @@ squared n a b c r k =
     row : (i : ℕ) → shifts (i + (n + k)) 1 ≡ sum4 (shifts (i + k) 1) (shifts (a + (i + k)) 1) (shifts (b + (i + k)) 1) (shifts (c + (i + k)) 1)
     row i = crossed i n ∙ r (i + k)
 
-far-sparse : Sparse 19200 5696 7488 9920
-far-sparse =
-    squared 9600 2848 3744 4960
-    (squared 4800 1424 1872 2480
-    (squared 2400 712 936 1240
-    (squared 1200 356 468 620 (squared 600 178 234 310 (squared 300 89 117 155 sparse)))))
+far-sparse : Sparse 2400 712 936 1240
+far-sparse = squared 1200 356 468 620 (squared 600 178 234 310 (squared 300 89 117 155 sparse))
 
 -- a copy of 1, shifted
 copy : (a b m : ℕ) → a + b ≡ m → shifts m (1 * 2 ^ a) ≡ shifts b 1
 copy a b m e = ap (λ (k : ℕ). shifts k (1 * 2 ^ a)) (sym e) ∙ shifts-add a b (1 * 2 ^ a) ∙ ap (shifts b) (shifts-up a 1)
 
-module _ (n m a b c d a′ b′ c′ d′ : ℕ) (en : 64 + m ≡ n) (ea : a + a′ ≡ m) (eb : b + b′ ≡ m) (ec : c + c′ ≡ m) (ed : d + d′ ≡ m) where
-  terms : shifts n (above 1 (copies a b c d 1)) ≡ bitXor (shifts n 1) (sum4 (shifts a′ 1) (shifts b′ 1) (shifts c′ 1) (shifts d′ 1))
+module _ (n m a b c d a′ b′ c′ d′ : ℕ) (en : 8 + m ≡ n) (ea : a + a′ ≡ m) (eb : b + b′ ≡ m) (ec : c + c′ ≡ m) (ed : d + d′ ≡ m) where
+  terms : shifts n (above 8 1 (copies a b c d 1)) ≡ bitXor (shifts n 1) (sum4 (shifts a′ 1) (shifts b′ 1) (shifts c′ 1) (shifts d′ 1))
   unfolding above copies
   terms =
-      shifts-xor n 1 (h * 2 ^ 64)
+      shifts-xor n 1 (h * 2 ^ 8)
       ∙ ap (bitXor (shifts n 1))
-      (ap (λ (k : ℕ). shifts k (h * 2 ^ 64)) (sym en) ∙ shifts-add 64 m (h * 2 ^ 64) ∙ ap (shifts m) (shifts-up 64 h)
+      (ap (λ (k : ℕ). shifts k (h * 2 ^ 8)) (sym en) ∙ shifts-add 8 m (h * 2 ^ 8) ∙ ap (shifts m) (shifts-up 8 h)
       ∙ shifts-sum4 m (1 * 2 ^ a) (1 * 2 ^ b) (1 * 2 ^ c) (1 * 2 ^ d)
       ∙ sum4-eq (copy a a′ m ea) (copy b b′ m eb) (copy c c′ m ec) (copy d d′ m ed))
     where
@@ -77,87 +74,87 @@ module _ (n m a b c d a′ b′ c′ d′ : ℕ) (en : 64 + m ≡ n) (ea : a + a
       h = sum4 (1 * 2 ^ a) (1 * 2 ^ b) (1 * 2 ^ c) (1 * 2 ^ d)
 
 unfoldable pub far : ℕ → ℕ
-far = copies 19136 13440 11648 9216
+far = copies 2392 1680 1456 1152
 
-far-folded : (w h : ℕ) → w < 2 ^ 64 → Same 2400 (bitXor h (far w)) (shifts 64 (above w h))
+far-folded : (w h : ℕ) → w < 2 ^ 8 → Same 300 (bitXor h (far w)) (shifts 8 (above 8 w h))
 unfolding far
-far-folded = folded 19136 13440 11648 9216 19200 nothing 2400 (omega arith)
+far-folded = folded 8 2392 1680 1456 1152 2400 nothing 300 (omega arith)
   where
-    nothing : shifts 19200 (above 1 (copies 19136 13440 11648 9216 1)) ≡ 0
+    nothing : shifts 2400 (above 8 1 (copies 2392 1680 1456 1152 1)) ≡ 0
     nothing =
-        terms 19200 19136 19136 13440 11648 9216 0 5696 7488 9920 refl refl refl refl refl
-        ∙ ap (λ (y : ℕ). bitXor y (sum4 (shifts 0 1) (shifts 5696 1) (shifts 7488 1) (shifts 9920 1))) (far-sparse 0)
-        ∙ xor-self (sum4 (shifts 0 1) (shifts 5696 1) (shifts 7488 1) (shifts 9920 1))
+        terms 2400 2392 2392 1680 1456 1152 0 712 936 1240 refl refl refl refl refl
+        ∙ ap (λ (y : ℕ). bitXor y (sum4 (shifts 0 1) (shifts 712 1) (shifts 936 1) (shifts 1240 1))) (far-sparse 0)
+        ∙ xor-self (sum4 (shifts 0 1) (shifts 712 1) (shifts 936 1) (shifts 1240 1))
 
--- ---- lists of words
+-- ---- lists of bytes
 
-words-step : (l : List ℕ) (k : ℕ) → words (drop k l) ≡ above (getD l k 0) (words (drop (suc k) l))
-unfolding words above
-words-step [] zero = refl
-words-step [] (suc k) = refl
-words-step (w ∷ l) zero = refl
-words-step (w ∷ l) (suc k) = words-step l k
+placed-step : (l : List ℕ) (k : ℕ) → placed (drop k l) ≡ above 8 (getD l k 0) (placed (drop (suc k) l))
+unfolding placed above
+placed-step [] zero = refl
+placed-step [] (suc k) = refl
+placed-step (w ∷ l) zero = refl
+placed-step (w ∷ l) (suc k) = placed-step l k
 
-words-snoc : (l : List ℕ) (x : ℕ) → words (l ++ (x ∷ [])) ≡ bitXor (words l) (x * 2 ^ (length l * 64))
-unfolding words above
-words-snoc [] x = above-zero x ∙ sym (mul-one x)
-words-snoc (w ∷ l) x =
-    ap (above w) (words-snoc l x)
+placed-snoc : (l : List ℕ) (x : ℕ) → placed (l ++ (x ∷ [])) ≡ bitXor (placed l) (x * 2 ^ (length l * 8))
+unfolding placed above
+placed-snoc [] x = above-zero 8 x ∙ sym (mul-one x)
+placed-snoc (w ∷ l) x =
+    ap (above 8 w) (placed-snoc l x)
     ∙ sym
-    (ap (bitXor (above w (words l)))
-    (ap (λ (k : ℕ). x * k) (ap (λ (k : ℕ). 2 ^ k) (suc-mul (length l) 64) ∙ pow-add 2 (length l * 64) 64)
-    ∙ sym (mul-assoc x (2 ^ (length l * 64)) (2 ^ 64)))
-    ∙ above-xor w (words l) 0 (x * 2 ^ (length l * 64)) ∙ ap (λ (y : ℕ). above y (bitXor (words l) (x * 2 ^ (length l * 64)))) (xor-zero-r w))
+    (ap (bitXor (above 8 w (placed l)))
+    (ap (λ (k : ℕ). x * k) (ap (λ (k : ℕ). 2 ^ k) (suc-mul (length l) 8) ∙ pow-add 2 (length l * 8) 8)
+    ∙ sym (mul-assoc x (2 ^ (length l * 8)) (2 ^ 8)))
+    ∙ above-xor 8 w (placed l) 0 (x * 2 ^ (length l * 8)) ∙ ap (λ (y : ℕ). above 8 y (bitXor (placed l) (x * 2 ^ (length l * 8)))) (xor-zero-r w))
 
--- from k on, where m words are left
-snoc-from : (l : List ℕ) (x k m : ℕ) → k + m ≡ length l → words (drop k (l ++ (x ∷ []))) ≡ bitXor (words (drop k l)) (x * 2 ^ (m * 64))
+-- from k on, where m bytes are left
+snoc-from : (l : List ℕ) (x k m : ℕ) → k + m ≡ length l → placed (drop k (l ++ (x ∷ []))) ≡ bitXor (placed (drop k l)) (x * 2 ^ (m * 8))
 snoc-from l x k m e =
     let n : length (drop k l) ≡ m = omega (arith, length-drop k l) in
-    ap words (drop-append-le k l (x ∷ []) (omega arith)) ∙ words-snoc (drop k l) x
-    ∙ ap (λ (j : ℕ). bitXor (words (drop k l)) (x * 2 ^ (j * 64))) n
+    ap placed (drop-append-le k l (x ∷ []) (omega arith)) ∙ placed-snoc (drop k l) x
+    ∙ ap (λ (j : ℕ). bitXor (placed (drop k l)) (x * 2 ^ (j * 8))) n
 
-spread-step : (l : List ℕ) → spread l ≡ above (reach l 0) (spread (drop 1 l))
+spread-step : (l : List ℕ) → spread l ≡ above 8 (reach l 0) (spread (drop 1 l))
 unfolding spread
 spread-step l =
-    sum4-eq (words-step l 0) (from 89) (from 117) (from 155)
-    ∙ above-sum4 (getD l 0 0) (getD l 89 0) (getD l 117 0) (getD l 155 0) (words (drop 1 l)) (words (drop 89 (drop 1 l))) (words (drop 117 (drop 1 l))) (words (drop 155 (drop 1 l)))
+    sum4-eq (placed-step l 0) (from 89) (from 117) (from 155)
+    ∙ above-sum4 8 (getD l 0 0) (getD l 89 0) (getD l 117 0) (getD l 155 0) (placed (drop 1 l)) (placed (drop 89 (drop 1 l))) (placed (drop 117 (drop 1 l))) (placed (drop 155 (drop 1 l)))
   where
-    from : (k : ℕ) → words (drop k l) ≡ above (getD l k 0) (words (drop k (drop 1 l)))
+    from : (k : ℕ) → placed (drop k l) ≡ above 8 (getD l k 0) (placed (drop k (drop 1 l)))
     from k =
-        words-step l k
-        ∙ ap (λ (m : List ℕ). above (getD l k 0) (words m)) (sym (drop-drop k 1 l ∙ ap (λ (n : ℕ). drop n l) (add-comm 1 k ∙ add-one k)))
+        placed-step l k
+        ∙ ap (λ (m : List ℕ). above 8 (getD l k 0) (placed m)) (sym (drop-drop k 1 l ∙ ap (λ (n : ℕ). drop n l) (add-comm 1 k ∙ add-one k)))
 
 spread-snoc : (l : List ℕ) (x : ℕ) → length l ≡ 299 → spread (l ++ (x ∷ [])) ≡ bitXor (spread l) (far x)
 unfolding spread far copies
 spread-snoc l x e =
     sum4-eq (snoc-from l x 0 299 (sym e)) (snoc-from l x 89 210 (sym e)) (snoc-from l x 117 182 (sym e)) (snoc-from l x 155 144 (sym e))
-    ∙ sum4-xor (words l) (words (drop 89 l)) (words (drop 117 l)) (words (drop 155 l)) (x * 2 ^ 19136) (x * 2 ^ 13440) (x * 2 ^ 11648) (x * 2 ^ 9216)
+    ∙ sum4-xor (placed l) (placed (drop 89 l)) (placed (drop 117 l)) (placed (drop 155 l)) (x * 2 ^ 2392) (x * 2 ^ 1680) (x * 2 ^ 1456) (x * 2 ^ 1152)
 
 -- the same from i on
 reach-from : (l : List ℕ) (i : ℕ) → reach (drop i l) 0 ≡ reach l i
 reach-from l i =
     sum4-eq (getD-drop i l 0 0 ∙ ap (λ (k : ℕ). getD l k 0) (add-zero i)) (getD-drop i l 89 0) (getD-drop i l 117 0) (getD-drop i l 155 0)
 
-spread-from : (l : List ℕ) (i : ℕ) → spread (drop i l) ≡ above (reach l i) (spread (drop (i + 1) l))
-spread-from l i = spread-step (drop i l) ∙ ap₂ above (reach-from l i) (ap spread (drop-drop 1 i l))
+spread-from : (l : List ℕ) (i : ℕ) → spread (drop i l) ≡ above 8 (reach l i) (spread (drop (i + 1) l))
+spread-from l i = spread-step (drop i l) ∙ ap₂ (above 8) (reach-from l i) (ap spread (drop-drop 1 i l))
 
--- the first words of a list reach as far, if they are enough
+-- the first bytes of a list reach as far, if they are enough
 pub reach-take : (n : ℕ) (l : List ℕ) (i : ℕ) → i + 155 < n → reach (take n l) i ≡ reach l i
 reach-take n l i h = sum4-eq (at i (omega arith)) (at (i + 89) (omega arith)) (at (i + 117) (omega arith)) (at (i + 155) h)
   where
     at : (k : ℕ) → k < n → getD (take n l) k 0 ≡ getD l k 0
     at k g = getD-take n l k 0 g
 
--- THE RULE of folding by whole words: the word w goes in, x leaves, and the list goes on by x
-pub far-turn : (l : List ℕ) (w x : ℕ) → length l ≡ 300 → x ≡ bitXor (reach l 0) w → x < 2 ^ 64
-    → Same 2400 (spread (drop 1 l ++ (x ∷ []))) (shifts 64 (bitXor (spread l) w))
+-- THE RULE of folding by whole bytes: the byte w goes in, x leaves, and the list goes on by x
+far-turn : (l : List ℕ) (w x : ℕ) → length l ≡ 300 → x ≡ bitXor (reach l 0) w → x < 2 ^ 8
+    → Same 300 (spread (drop 1 l ++ (x ∷ []))) (shifts 8 (bitXor (spread l) w))
 far-turn l w x e i h bs f =
     let n : length (drop 1 l) ≡ 299 = omega (arith, length-drop 1 l) in
     ap (λ (r : ℕ). bytesIn r bs) (spread-snoc (drop 1 l) x n)
     ∙ far-folded x (spread (drop 1 l)) h bs f
-    ∙ ap (λ (r : ℕ). bytesIn (shifts 64 r) bs)
-    (ap (λ (y : ℕ). above y (spread (drop 1 l))) i
-    ∙ sym (ap (λ (r : ℕ). bitXor r w) (spread-step l) ∙ above-low (reach l 0) (spread (drop 1 l)) w))
+    ∙ ap (λ (r : ℕ). bytesIn (shifts 8 r) bs)
+    (ap (λ (y : ℕ). above 8 y (spread (drop 1 l))) i
+    ∙ sym (ap (λ (r : ℕ). bitXor r w) (spread-step l) ∙ above-low 8 (reach l 0) (spread (drop 1 l)) w))
 
 -- ---- the list that `fill` goes on with
 
@@ -165,7 +162,7 @@ rest-of-window : (n : ℕ) (l : List ℕ) → take n (drop 1 l) ≡ drop 1 (take
 rest-of-window n [] = take-nil n
 rest-of-window n (w ∷ l) = refl
 
--- the 300 words from i + 1 on, when x is stored behind those from i on
+-- the 300 bytes from i + 1 on, when x is stored behind those from i on
 window-step : (l : List ℕ) (i x : ℕ) → 300 + i < length l → take 300 (drop (i + 1) (set l (300 + i) x)) ≡ drop 1 (take 300 (drop i l)) ++ (x ∷ [])
 window-step l i x h =
     let e : 300 + i ≡ i + 1 + 299 = omega arith in
@@ -177,32 +174,44 @@ window-step l i x h =
 window-reach : (l : List ℕ) (i : ℕ) → reach (take 300 (drop i l)) 0 ≡ reach l i
 window-reach l i = reach-take 300 (drop i l) 0 (omega arith) ∙ reach-from l i
 
-module _ (bs : List ℕ) (at i w : ℕ) (put : Word bs (at + i * 8) w) where
-  next-word : at + (i + 1) * 8 ≡ at + i * 8 + 8
-  next-word = omega arith
+-- the byte at j goes in
+byte-in : (bs : List ℕ) (j s : ℕ) → j < length bs → bytesIn (shifts 8 (bitXor s (getD bs j 0))) (drop (suc j) bs) ≡ bytesIn s (drop j bs)
+unfolding bytesIn byteIn
+byte-in bs j s h = sym (ap (bytesIn s) (drop-cons bs j 0 h))
 
-  -- one more word has left
-  pub fill-turn : (l : List ℕ) (x : ℕ) → 300 + i < length l → at + i * 8 + 8 + 2400 ≤ length bs → x ≡ bitXor (reach l i) w → x < 2 ^ 64
-      → bytesIn (spread (take 300 (drop (i + 1) (set l (300 + i) x)))) (drop (at + (i + 1) * 8) bs) ≡ bytesIn (spread (take 300 (drop i l))) (drop (at + i * 8) bs)
+bytes-snoc : (r : ℕ) (bs : List ℕ) (x : ℕ) → bytesIn r (bs ++ (x ∷ [])) ≡ shifts 8 (bitXor (bytesIn r bs) x)
+unfolding bytesIn byteIn
+bytes-snoc r bs x = bytes-append r bs (x ∷ [])
+
+module _ (bs : List ℕ) (at i : ℕ) where
+  next-byte : at + (i + 1) ≡ suc (at + i)
+  next-byte = omega arith
+
+  -- one more byte has left
+  pub fill-turn : (l : List ℕ) (x : ℕ) → 300 + i < length l → at + i + 1 + 300 ≤ length bs → x ≡ bitXor (reach l i) (getD bs (at + i) 0) → x < 2 ^ 8
+      → bytesIn (spread (take 300 (drop (i + 1) (set l (300 + i) x)))) (drop (at + (i + 1)) bs) ≡ bytesIn (spread (take 300 (drop i l))) (drop (at + i) bs)
   fill-turn l x h m e f =
+      let w = getD bs (at + i) 0 in
       let n : length (take 300 (drop i l)) ≡ 300 = length-take-le 300 (drop i l) (omega (arith, length-drop i l)) in
-      ap₂ (λ (v : List ℕ) (k : ℕ). bytesIn (spread v) (drop k bs)) (window-step l i x h) next-word
-      ∙ far-turn (take 300 (drop i l)) w x n (e ∙ ap (λ (y : ℕ). bitXor y w) (sym (window-reach l i))) f (drop (at + i * 8 + 8) bs)
-      (omega (arith, length-drop (at + i * 8 + 8) bs))
-      ∙ put (spread (take 300 (drop i l)))
+      ap₂ (λ (v : List ℕ) (k : ℕ). bytesIn (spread v) (drop k bs)) (window-step l i x h) next-byte
+      ∙ far-turn (take 300 (drop i l)) w x n (e ∙ ap (λ (y : ℕ). bitXor y w) (sym (window-reach l i))) f (drop (suc (at + i)) bs)
+      (omega (arith, length-drop (suc (at + i)) bs))
+      ∙ byte-in bs (at + i) (spread (take 300 (drop i l))) (omega arith)
 
-  -- one more word is put into those that wait, p, which makes q of them
-  pub gather-turn : (l : List ℕ) (p q : ℕ) → Same 40 q (shifts 64 (bitXor p (bitXor (reach l i) w))) → at + i * 8 + 8 + 40 ≤ length bs
-      → bytesIn (bitXor q (spread (drop (i + 1) l))) (drop (at + (i + 1) * 8) bs) ≡ bytesIn (bitXor p (spread (drop i l))) (drop (at + i * 8) bs)
-  gather-turn l p q same m =
-      let rest = drop (at + i * 8 + 8) bs in
+  -- one more byte is mixed with what is added to it
+  pub mixed-turn : (l m : List ℕ) (x : ℕ) → i < length m → at + i < length bs → x ≡ bitXor (reach l i) (getD bs (at + i) 0)
+      → bytesIn (bitXor (bytesIn 0 (take (i + 1) (set m i x))) (spread (drop (i + 1) l))) (drop (at + (i + 1)) bs)
+      ≡ bytesIn (bitXor (bytesIn 0 (take i m)) (spread (drop i l))) (drop (at + i) bs)
+  mixed-turn l m x h g e =
+      let w = getD bs (at + i) 0 in
+      let q = bytesIn 0 (take i m) in
       let t = spread (drop (i + 1) l) in
-      ap (λ (k : ℕ). bytesIn (bitXor q t) (drop k bs)) next-word
-      ∙ same-xor 40 q (shifts 64 (bitXor p (bitXor (reach l i) w))) t same rest (omega (arith, length-drop (at + i * 8 + 8) bs))
-      ∙ ap (λ (r : ℕ). bytesIn r rest)
-      (ap (λ (r : ℕ). bitXor (shifts 64 r) t) (sym (xor-assoc p (reach l i) w)) ∙ sym (word-met p (reach l i) w t))
-      ∙ put (bitXor p (above (reach l i) t))
-      ∙ ap (λ (r : ℕ). bytesIn (bitXor p r) (drop (at + i * 8) bs)) (sym (spread-from l i))
+      let q′ : bytesIn 0 (take (i + 1) (set m i x)) ≡ shifts 8 (bitXor (bitXor q (reach l i)) w)
+      = ap (bytesIn 0) (ap (λ (k : ℕ). take k (set m i x)) (add-one i) ∙ take-suc-set m i x h)
+      ∙ bytes-snoc 0 (take i m) x ∙ ap (shifts 8) (ap (bitXor q) e ∙ sym (xor-assoc q (reach l i) w)) in
+      ap₂ (λ (r k : ℕ). bytesIn r (drop k bs)) (ap (λ (y : ℕ). bitXor y t) q′ ∙ sym (word-met 8 q (reach l i) w t)) next-byte
+      ∙ byte-in bs (at + i) (bitXor q (above 8 (reach l i) t)) g
+      ∙ ap (λ (r : ℕ). bytesIn (bitXor q r) (drop (at + i) bs)) (sym (spread-from l i))
 
 -- ---- the list that `slide` moves
 
@@ -223,21 +232,21 @@ module _ (l₀ l : List ℕ) (n i : ℕ) (same : drop i l ≡ drop i l₀) where
   pub slide-back : (x : ℕ) → drop (i + 1) (set l i x) ≡ drop (i + 1) l₀
   slide-back x = drop-set-lt (i + 1) l i x (omega arith) ∙ sym (drop-drop 1 i l) ∙ ap (drop 1) same ∙ drop-drop 1 i l₀
 
--- ---- zeros behind the last words
+-- ---- zeros behind the last bytes
 
-words-zeros : (l : List ℕ) (n : ℕ) → words (l ++ zeros n) ≡ words l
-unfolding words above zeros
-words-zeros [] zero = refl
-words-zeros [] (suc n) = ap (above 0) (words-zeros [] n)
-words-zeros (w ∷ l) n = ap (above w) (words-zeros l n)
+placed-zeros : (l : List ℕ) (n : ℕ) → placed (l ++ zeros n) ≡ placed l
+unfolding placed above zeros
+placed-zeros [] zero = refl
+placed-zeros [] (suc n) = ap (above 8 0) (placed-zeros [] n)
+placed-zeros (w ∷ l) n = ap (above 8 w) (placed-zeros l n)
 
 spread-zeros : (l : List ℕ) (n : ℕ) → 155 ≤ length l → spread (l ++ zeros n) ≡ spread l
 unfolding spread
 spread-zeros l n h =
-    sum4-eq (words-zeros l n) (from 89 (omega arith)) (from 117 (omega arith)) (from 155 h)
+    sum4-eq (placed-zeros l n) (from 89 (omega arith)) (from 117 (omega arith)) (from 155 h)
   where
-    from : (k : ℕ) → k ≤ length l → words (drop k (l ++ zeros n)) ≡ words (drop k l)
-    from k g = ap words (drop-append-le k l (zeros n) g) ∙ words-zeros (drop k l) n
+    from : (k : ℕ) → k ≤ length l → placed (drop k (l ++ zeros n)) ≡ placed (drop k l)
+    from k g = ap placed (drop-append-le k l (zeros n) g) ∙ placed-zeros (drop k l) n
 
 -- one zero more
 pub zeros-more : (l : List ℕ) (i : ℕ) → 300 ≤ i → i < length l → drop 300 (take i l) ≡ zeros (i - 300) → drop 300 (take (i + 1) (set l i 0)) ≡ zeros (i + 1 - 300)
@@ -248,33 +257,42 @@ zeros-more l i g h e =
     ap (drop 300) (ap (λ (k : ℕ). take k (set l i 0)) (add-one i) ∙ take-suc-set l i 0 h) ∙ drop-append-le 300 (take i l) (0 ∷ []) (omega arith)
     ∙ ap (λ (z : List ℕ). z ++ (0 ∷ [])) e ∙ replicate-append-replicate (i - 300) 1 0 ∙ ap (λ (k : ℕ). replicate k 0) m
 
-module _ (l : List ℕ) (ended : drop 300 (take 455 l) ≡ zeros 155) (long : length l ≡ 900) where
-  -- all that was added has been put in
-  gathered : spread (drop 300 (take 455 l)) ≡ 0
-  unfolding spread words above zeros
-  gathered = ap spread ended
+module _ (l : List ℕ) (ended : drop 300 (take 459 l) ≡ zeros 159) (long : length l ≡ 1900) where
+  -- nothing is added past the last 300
+  nothing-added : spread (drop 304 (take 459 l)) ≡ 0
+  unfolding spread placed above zeros
+  nothing-added = ap spread (sym (drop-drop 4 300 (take 459 l)) ∙ ap (drop 4) ended)
 
-  -- the words that are read are the last 300, and zeros
-  as-read : spread (take 455 l) ≡ spread (take 300 l)
+  -- the bytes that are read are the last 300, and zeros
+  as-read : spread (take 459 l) ≡ spread (take 300 l)
   as-read =
       let n : 155 ≤ length (take 300 l) = omega (arith, length-take-le 300 l (omega arith)) in
-      ap spread (sym (take-append-drop 300 (take 455 l)) ∙ ap₂ (λ (a b : List ℕ). a ++ b) (take-take 300 455 l (omega arith)) ended)
-      ∙ spread-zeros (take 300 l) 155 n
+      ap spread (sym (take-append-drop 300 (take 459 l)) ∙ ap₂ (λ (a b : List ℕ). a ++ b) (take-take 300 459 l (omega arith)) ended)
+      ∙ spread-zeros (take 300 l) 159 n
 
-  pub gather-done : (p at i : ℕ) (bs : List ℕ) → i ≡ 300
-      → bytesIn (bitXor p (spread (drop i (take 455 l)))) (drop (at + i * 8) bs) ≡ bytesIn (spread (take 455 l)) (drop at bs)
-      → bytesIn p (drop (at + 2400) bs) ≡ bytesIn (spread (take 300 l)) (drop at bs)
-  gather-done p at i bs e h =
-      ap (λ (r : ℕ). bytesIn r (drop (at + 2400) bs)) (sym (ap (bitXor p) gathered ∙ xor-zero-r p)) ∙ rw e at h
-      ∙ ap (λ (r : ℕ). bytesIn r (drop at bs)) as-read
+  pub mixed-done : (at i : ℕ) (bs m : List ℕ) → i ≡ 304 → length m ≡ 304 → at + 304 ≡ length bs
+      → bytesIn (bitXor (bytesIn 0 (take i m)) (spread (drop i (take 459 l)))) (drop (at + i) bs) ≡ bytesIn (spread (take 459 l)) (drop at bs)
+      → bytesIn 0 m ≡ bytesIn (spread (take 300 l)) (drop at bs)
+  mixed-done at i bs m e n end h =
+      sym
+      (ap (λ (k : ℕ). bytesIn (bitXor (bytesIn 0 (take k m)) (spread (drop k (take 459 l)))) (drop (at + k) bs)) e
+      ∙ ap₂ (λ (r k : ℕ). bytesIn r (drop k bs)) (ap₂ bitXor (ap (bytesIn 0) (ap (λ (k : ℕ). take k m) (sym n) ∙ take-length m)) nothing-added ∙ xor-zero-r (bytesIn 0 m)) end
+      ∙ sym (none-left bs (length bs) (bytesIn 0 m) refl))
+      ∙ h ∙ ap (λ (r : ℕ). bytesIn r (drop at bs)) as-read
 
--- the state as a word that left
-pub one-word : (s : ℕ) → spread (take 300 (set (replicate 900 0) 0 s)) ≡ s
-unfolding spread words above
-one-word s = xor-zero-r (bitXor s 0) ∙ xor-zero-r s
+four-placed : (a b c d : ℕ) → spread (take 300 (set (set (set (set (replicate 1900 0) 0 a) 1 b) 2 c) 3 d)) ≡ above 8 a (above 8 b (above 8 c d))
+unfolding spread placed above
+four-placed a b c d = xor-zero-r (above 8 a (above 8 b (above 8 c (above 8 d 0)))) ∙ ap (λ (y : ℕ). above 8 a (above 8 b (above 8 c y))) (xor-zero-r d)
+
+-- the state as four bytes that left
+pub four-bytes : (s a b c d : ℕ) → a < 2 ^ 8 → b < 2 ^ 8 → c < 2 ^ 8 → ((d * 2 ^ 8 + c) * 2 ^ 8 + b) * 2 ^ 8 + a ≡ s
+    → spread (take 300 (set (set (set (set (replicate 1900 0) 0 a) 1 b) 2 c) 3 d)) ≡ s
+four-bytes s a b c d ha hb hc e =
+    four-placed a b c d
+    ∙ ap (above 8 a) (ap (above 8 b) (above-number 8 c d hc) ∙ above-number 8 b (d * 2 ^ 8 + c) hb) ∙ above-number 8 a ((d * 2 ^ 8 + c) * 2 ^ 8 + b) ha ∙ e
 
 -- a block has left: k is the list after `fill`, and m after `slide`
 pub block-left : (bs l k m : List ℕ) (at n x : ℕ) → m ≡ take 300 (drop n k)
-    → bytesIn (spread (take 300 (drop n k))) (drop (at + n * 8) bs) ≡ bytesIn (spread l) (drop at bs) → bytesIn (spread l) (drop at bs) ≡ x
-    → bytesIn (spread m) (drop (at + n * 8) bs) ≡ x
-block-left bs l k m at n x e p q = ap (λ (y : List ℕ). bytesIn (spread y) (drop (at + n * 8) bs)) e ∙ p ∙ q
+    → bytesIn (spread (take 300 (drop n k))) (drop (at + n) bs) ≡ bytesIn (spread l) (drop at bs) → bytesIn (spread l) (drop at bs) ≡ x
+    → bytesIn (spread m) (drop (at + n) bs) ≡ x
+block-left bs l k m at n x e p q = ap (λ (y : List ℕ). bytesIn (spread y) (drop (at + n) bs)) e ∙ p ∙ q

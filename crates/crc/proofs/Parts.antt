@@ -51,7 +51,7 @@ none-left bs i s e = sym (ap (bytesIn s) (ap (λ (n : ℕ). drop n bs) e ∙ dro
 -- a word that goes into the register s and v, which waits for it
 pub meets : (bs : List ℕ) (i s v w r : ℕ) → Word bs i w → r ≡ shifts 64 (bitXor (bitXor s v) w) → Met bs i s v r
 meets bs i s v w r put e h =
-    ap (λ (x : ℕ). bytesIn x (drop (i + 8) bs)) (ap (λ (x : ℕ). bitXor x h) e ∙ sym (word-met s v w h)) ∙ put (bitXor s (above v h))
+    ap (λ (x : ℕ). bytesIn x (drop (i + 8) bs)) (ap (λ (x : ℕ). bitXor x h) e ∙ sym (word-met 64 s v w h)) ∙ put (bitXor s (above 64 v h))
 
 -- where nothing waits
 pub word-in : (bs : List ℕ) (i s r : ℕ) → Met bs i s 0 r → bytesIn r (drop (i + 8) bs) ≡ bytesIn s (drop i bs)
@@ -62,12 +62,12 @@ word-in bs i s r met =
 -- where five words wait
 pub settled : (bs : List ℕ) (i a b c d e p q r s t : ℕ)
     → Met bs i 0 a p → Met bs (i + 8) p b q → Met bs (i + 8 + 8) q c r → Met bs (i + 8 + 8 + 8) r d s → Met bs (i + 8 + 8 + 8 + 8) s e t
-    → bytesIn t (drop (i + 40) bs) ≡ bytesIn (above a (above b (above c (above d e)))) (drop i bs)
+    → bytesIn t (drop (i + 40) bs) ≡ bytesIn (above 64 a (above 64 b (above 64 c (above 64 d e)))) (drop i bs)
 settled bs i a b c d e p q r s t ma mb mc md me =
     let end : i + 40 ≡ i + 8 + 8 + 8 + 8 + 8 = omega arith in
     ap₂ (λ (x n : ℕ). bytesIn x (drop n bs)) (sym (xor-zero-r t)) end ∙ me 0
-    ∙ ap (λ (w : ℕ). bytesIn (bitXor s w) (drop (i + 8 + 8 + 8 + 8) bs)) (above-zero e)
-    ∙ md e ∙ mc (above d e) ∙ mb (above c (above d e)) ∙ ma (above b (above c (above d e)))
+    ∙ ap (λ (w : ℕ). bytesIn (bitXor s w) (drop (i + 8 + 8 + 8 + 8) bs)) (above-zero 64 e)
+    ∙ md e ∙ mc (above 64 d e) ∙ mb (above 64 c (above 64 d e)) ∙ ma (above 64 b (above 64 c (above 64 d e)))
 
 -- ---- fewer than eight bytes
 

@@ -13,13 +13,13 @@ abbrev pub le : List ℕ → ℕ
 le [] = 0
 le (b ∷ bs) = le bs * 256 + b
 
--- the word a, with h above it
-unfoldable pub above : ℕ → ℕ → ℕ
-above a h = bitXor a (h * 2 ^ 64)
+-- the k bits a, with h above them
+unfoldable pub above : ℕ → ℕ → ℕ → ℕ
+above k a h = bitXor a (h * 2 ^ k)
 
 -- the number of the words that wait
 abbrev pub number : Pending → ℕ
-number p = above (p .a) (above (p .b) (above (p .c) (above (p .d) (p .e))))
+number p = above 64 (p .a) (above 64 (p .b) (above 64 (p .c) (above 64 (p .d) (p .e))))
 
 -- two registers of which n bytes or more make the same
 abbrev pub Same : ℕ → ℕ → ℕ → Type 0
@@ -31,22 +31,22 @@ Word bs i w = (s : ℕ) → bytesIn (shifts 64 (bitXor s w)) (drop (i + 8) bs) �
 
 -- r is the register after the word of bs at i, where s was the register and the word v waited for it; what waits above v comes down
 abbrev pub Met : List ℕ → ℕ → ℕ → ℕ → ℕ → Type 0
-Met bs i s v r = (h : ℕ) → bytesIn (bitXor r h) (drop (i + 8) bs) ≡ bytesIn (bitXor s (above v h)) (drop i bs)
+Met bs i s v r = (h : ℕ) → bytesIn (bitXor r h) (drop (i + 8) bs) ≡ bytesIn (bitXor s (above 64 v h)) (drop i bs)
 
--- the number of a list of words, the low word first
-unfoldable pub words : List ℕ → ℕ
-words [] = 0
-words (w ∷ ws) = above w (words ws)
+-- the sum of a list of bytes, each in its place, the low one first: `le`, bit by bit
+unfoldable pub placed : List ℕ → ℕ
+placed [] = 0
+placed (b ∷ bs) = above 8 b (placed bs)
 
 abbrev pub sum4 : ℕ → ℕ → ℕ → ℕ → ℕ
 sum4 a b c d = bitXor a (bitXor b (bitXor c d))
 
--- what 300 words that have left make of those behind them: word j gets words j, j + 89, j + 117 and j + 155, which are 300, 211, 183 and 145
+-- what 300 bytes that have left make of those behind them: byte j gets bytes j, j + 89, j + 117 and j + 155, which are 300, 211, 183 and 145
 -- places before it
 unfoldable pub spread : List ℕ → ℕ
-spread l = sum4 (words l) (words (drop 89 l)) (words (drop 117 l)) (words (drop 155 l))
+spread l = sum4 (placed l) (placed (drop 89 l)) (placed (drop 117 l)) (placed (drop 155 l))
 
--- its low word, where the list is read from i on
+-- its low byte, where the list is read from i on
 abbrev pub reach : List ℕ → ℕ → ℕ
 reach l i = sum4 (getD l i 0) (getD l (i + 89) 0) (getD l (i + 117) 0) (getD l (i + 155) 0)
 

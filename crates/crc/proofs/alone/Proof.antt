@@ -7,7 +7,7 @@ use Rattle.crc.proofs.alone.Tie as tie
 
 returns : tie.Need-returns
 unfolding above
-returns c = above-zero (c .args .state)
+returns c = above-zero 64 (c .args .state)
 
 pub alone-spec : {M : Type 1} → statement M
 alone-spec = tie.close (tie.spec returns)

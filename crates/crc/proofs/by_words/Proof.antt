@@ -1,7 +1,7 @@
 -- `crc::by_words` meets its contract. The loop's invariant: the bytes that are left, put into the words that wait now, make what all the bytes make
--- of the words that waited first, and at least 40 are left. The measure is what is left of the length. Assumes nothing.
-use mathlib.Core.Path.{_≡_, refl, _∙_}
-use Prim.Native.Nat.{_+_, _≤_, _-_}
+-- of the state, and at least 40 are left. The measure is what is left of the length. Assumes nothing.
+use mathlib.Core.Path.{_≡_, ap, _∙_}
+use Prim.Native.Nat.{ℕ, _+_, _≤_, _-_}
 use native.Mathlib.Omega.{arith}
 use lib.ListN.{length, drop, length-drop}
 use borrow.Author.Needs.{needs}
@@ -11,13 +11,16 @@ use Rattle.crc.proofs.by_words.Statement.{statement}
 use Rattle.crc.proofs.by_words.Tie as tie
 
 abbrev Inv-loop : tie.InvT-loop
-Inv-loop t part start p₀ i₀ p i = (i + 40 ≤ length part) × (bytesIn (number p) (drop i part) ≡ bytesIn (number p₀) (drop start part))
+Inv-loop t state part p₀ i₀ p i = (i + 40 ≤ length part) × (bytesIn (number p) (drop i part) ≡ bytesIn state part)
 
 abbrev μ-loop : tie.MeasureT-loop
-μ-loop t part start p₀ i₀ p i = length part - i
+μ-loop t state part p₀ i₀ p i = length part - i
+
+alone-requires : tie.Need-alone-requires Inv-loop μ-loop
+alone-requires c κs = search needs
 
 loop-holds : tie.Need-loop-holds Inv-loop μ-loop
-loop-holds c = (search needs, refl)
+loop-holds c = (search needs, ap (λ (s : ℕ). bytesIn s (c .before .before .before .args .part .now)) (c .alone .ensures))
 
 sub-loop : tie.Need-sub-loop Inv-loop μ-loop
 sub-loop c = search needs
@@ -37,7 +40,7 @@ loop-less c = search needs
 loop-again : tie.Need-loop-again Inv-loop μ-loop
 loop-again c =
     let head = c .before .before .before in
-    let part = head .before .before .before .args .part .now in
+    let part = head .before .before .before .before .args .part .now in
     let i = head .loop .i in (
       search needs,
       c .push .ensures (drop (i + 8) part) (omega (arith, length-drop (i + 8) part)) ∙ c .before .word-at .ensures (number (head .loop .p)) ∙ head .loop .inv .1,
@@ -61,6 +64,7 @@ by-words-spec =
     (tie.spec
     Inv-loop
     μ-loop
+    alone-requires
     loop-holds
     sub-loop
     word-at-requires

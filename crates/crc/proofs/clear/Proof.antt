@@ -1,5 +1,5 @@
--- `crc::clear` meets its contract. The loop's invariant: of the first i words, all past the first 300 are zeros. The measure is what is left of the
--- 455 words. Assumes nothing.
+-- `crc::clear` meets its contract. The loop's invariant: of the first i bytes, all past the first 300 are zeros. The measure is what is left of the
+-- 459 bytes. Assumes nothing.
 use mathlib.Core.Path.{_≡_, refl, _∙_}
 use mathlib.Core.List.{List}
 use Prim.Native.Nat.{ℕ, _-_, _≤_}
@@ -12,20 +12,17 @@ use Rattle.crc.proofs.clear.Statement.{statement}
 use Rattle.crc.proofs.clear.Tie as tie
 
 abbrev Inv-loop : tie.InvT-loop
-Inv-loop far₀ i₀ far i = (300 ≤ i) × (i ≤ 455) × (length far ≡ 900) × (take 300 far ≡ take 300 far₀) × (drop 300 (take i far) ≡ zeros (i - 300))
+Inv-loop far₀ i₀ far i = (300 ≤ i) × (i ≤ 459) × (length far ≡ 1900) × (take 300 far ≡ take 300 far₀) × (drop 300 (take i far) ≡ zeros (i - 300))
 
 abbrev μ-loop : tie.MeasureT-loop
-μ-loop far₀ i₀ far i = 455 - i
+μ-loop far₀ i₀ far i = 459 - i
 
-none : (l : List ℕ) → length l ≡ 900 → drop 300 (take 300 l) ≡ zeros 0
+none : (l : List ℕ) → length l ≡ 1900 → drop 300 (take 300 l) ≡ zeros 0
 unfolding zeros
 none l e = drop-of-length-le (take 300 l) {i = 300} (omega (arith, length-take-le 300 l (omega arith)))
 
 loop-holds : tie.Need-loop-holds Inv-loop μ-loop
 loop-holds c = (omega arith, omega arith, omega arith, refl, none (c .args .far .now) (c .pre))
-
-mul-far : tie.Need-mul-far Inv-loop μ-loop
-mul-far c = omega arith
 
 slice-write-far : tie.Need-slice-write-far Inv-loop μ-loop
 slice-write-far c = omega arith
@@ -54,7 +51,7 @@ same-length c = omega arith
 returns : tie.Need-returns Inv-loop μ-loop
 returns c =
     let head = c .before in
-    let e : head .loop .i ≡ 455 = omega arith in
+    let e : head .loop .i ≡ 459 = omega arith in
     (head .loop .inv .3, rw e at (head .loop .inv .4))
 
 pub clear-spec : {M : Type 1} → statement M
@@ -64,7 +61,6 @@ clear-spec =
     Inv-loop
     μ-loop
     loop-holds
-    mul-far
     slice-write-far
     add-i
     loop-less

@@ -1,10 +1,10 @@
--- `crc::fill` meets its contract. The loop's invariant: the bytes that are left, with what the last 300 words add to them, make what all the bytes make
--- with what the first 300 words add. The measure is what is left of n. Assumes nothing.
+-- `crc::fill` meets its contract. The loop's invariant: the bytes that are left, with what the last 300 bytes add to them, make what all the bytes make
+-- with what the first 300 bytes add. The measure is what is left of n. Assumes nothing.
 use mathlib.Core.Path.{_≡_, ap, _∙_}
-use Prim.Native.Nat.{ℕ, _+_, _-_, _*_, _≤_}
+use Prim.Native.Nat.{ℕ, _+_, _-_, _≤_}
 use native.Mathlib.Nat.{add-zero}
 use native.Mathlib.Omega.{arith}
-use lib.ListN.{length, take, drop, length-set}
+use lib.ListN.{length, getD, take, drop, length-set}
 use lib.Bits.{bitXor, xor-lt}
 use borrow.Author.Needs.{needs}
 use Rattle.crc.specs.Crc.{bytesIn}
@@ -16,8 +16,8 @@ use Rattle.crc.proofs.fill.Tie as tie
 abbrev Inv-loop : tie.InvT-loop
 Inv-loop far₀ part at n i₀ far i =
     (i ≤ n)
-    × (length far ≡ 900)
-    × (bytesIn (spread (take 300 (drop i far))) (drop (at + i * 8) part) ≡ bytesIn (spread (take 300 far₀)) (drop at part))
+    × (length far ≡ 1900)
+    × (bytesIn (spread (take 300 (drop i far))) (drop (at + i) part) ≡ bytesIn (spread (take 300 far₀)) (drop at part))
 
 abbrev μ-loop : tie.MeasureT-loop
 μ-loop far₀ part at n i₀ far i = n - i
@@ -28,20 +28,14 @@ loop-holds c = (omega arith, omega arith, ap (λ (k : ℕ). bytesIn (spread (tak
 reach-of-requires : tie.Need-reach-of-requires Inv-loop μ-loop
 reach-of-requires c κs = search needs
 
-mul-word-at : tie.Need-mul-word-at Inv-loop μ-loop
-mul-word-at c = omega arith
-
-add-word-at : tie.Need-add-word-at Inv-loop μ-loop
-add-word-at c = omega arith
-
-word-at-requires : tie.Need-word-at-requires Inv-loop μ-loop
-word-at-requires c κs = search needs
-
 add-far : tie.Need-add-far Inv-loop μ-loop
 add-far c = omega arith
 
-mul-far : tie.Need-mul-far Inv-loop μ-loop
-mul-far c = omega arith
+shared-slice-read-far : tie.Need-shared-slice-read-far Inv-loop μ-loop
+shared-slice-read-far c = omega arith
+
+add-far-2 : tie.Need-add-far-2 Inv-loop μ-loop
+add-far-2 c = omega arith
 
 slice-write-far : tie.Need-slice-write-far Inv-loop μ-loop
 slice-write-far c = omega arith
@@ -58,11 +52,14 @@ loop-again c =
     let z = head .before .before .before in
     let far = head .loop .far in
     let i = head .loop .i in
-    let x = bitXor (c .before .reach-of .result) (c .word-at .result) in (
+    let part = z .args .part .now in
+    let at = z .args .at in
+    let w = getD part (at + i) 0 in
+    let x = bitXor (c .before .reach-of .result) w in (
       omega arith,
       length-set far (300 + i) x ∙ head .loop .inv .1,
-      fill-turn (z .args .part .now) (z .args .at) i (c .word-at .result) (c .word-at .ensures) far x (omega arith) (omega arith)
-          (ap (λ (y : ℕ). bitXor y (c .word-at .result)) (c .before .reach-of .ensures)) (xor-lt 64 (c .before .reach-of .result) (c .word-at .result) (omega arith) (omega arith))
+      fill-turn part at i far x (omega arith) (omega arith) (ap (λ (y : ℕ). bitXor y w) (c .before .reach-of .ensures))
+          (xor-lt 8 (c .before .reach-of .result) w (omega arith) (c .shared-slice-known2 .given (at + i) .fits))
           ∙ head .loop .inv .2,
     )
 
@@ -83,11 +80,9 @@ fill-spec =
     μ-loop
     loop-holds
     reach-of-requires
-    mul-word-at
-    add-word-at
-    word-at-requires
     add-far
-    mul-far
+    shared-slice-read-far
+    add-far-2
     slice-write-far
     add-i
     loop-less

@@ -17,10 +17,10 @@ returns c bs f =
     let p = z .args .p in
     let w = z .args .w in
     let l : bitXor (p .a) w < 2 ^ 64 = xor-lt 64 (p .a) w (omega arith) (omega arith) in
-    let h = above (p .b) (above (p .c) (above (p .d) (p .e))) in
+    let h = above 64 (p .b) (above 64 (p .c) (above 64 (p .d) (p .e))) in
     ap (λ (r : ℕ). bytesIn r bs) (near-words (bitXor (p .a) w) l (p .b) (p .c) (p .d) (p .e))
     ∙ near-folded (bitXor (p .a) w) h l bs f
-    ∙ ap (λ (r : ℕ). bytesIn (shifts 64 r) bs) (sym (above-low (p .a) h w))
+    ∙ ap (λ (r : ℕ). bytesIn (shifts 64 r) bs) (sym (above-low 64 (p .a) h w))
 
 pub push-spec : {M : Type 1} → statement M
 push-spec = tie.close (tie.spec returns)

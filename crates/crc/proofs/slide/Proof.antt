@@ -1,5 +1,5 @@
--- `crc::slide` meets its contract. The loop's invariant: the first i words are those from n on, and the others stand. The measure is what is left of
--- the 300 words. Assumes nothing.
+-- `crc::slide` meets its contract. The loop's invariant: the first i bytes are those from n on, and the others stand. The measure is what is left of
+-- the 300 bytes. Assumes nothing.
 use mathlib.Core.Path.{_≡_, refl, _∙_}
 use Prim.Native.Nat.{_+_, _-_, _≤_}
 use native.Mathlib.Omega.{arith}
@@ -9,7 +9,7 @@ use Rattle.crc.proofs.slide.Statement.{statement}
 use Rattle.crc.proofs.slide.Tie as tie
 
 abbrev Inv-loop : tie.InvT-loop
-Inv-loop far₀ n i₀ far i = (i ≤ 300) × (length far ≡ 900) × (take i far ≡ take i (drop n far₀)) × (drop i far ≡ drop i far₀)
+Inv-loop far₀ n i₀ far i = (i ≤ 300) × (length far ≡ 1900) × (take i far ≡ take i (drop n far₀)) × (drop i far ≡ drop i far₀)
 
 abbrev μ-loop : tie.MeasureT-loop
 μ-loop far₀ n i₀ far i = 300 - i
@@ -20,14 +20,8 @@ loop-holds c = (omega arith, omega arith, refl, refl)
 add-far : tie.Need-add-far Inv-loop μ-loop
 add-far c = omega arith
 
-mul-far : tie.Need-mul-far Inv-loop μ-loop
-mul-far c = omega arith
-
 slice-read-far : tie.Need-slice-read-far Inv-loop μ-loop
 slice-read-far c = omega arith
-
-mul-far-2 : tie.Need-mul-far-2 Inv-loop μ-loop
-mul-far-2 c = omega arith
 
 slice-write-far : tie.Need-slice-write-far Inv-loop μ-loop
 slice-write-far c = omega arith
@@ -69,9 +63,7 @@ slide-spec =
     μ-loop
     loop-holds
     add-far
-    mul-far
     slice-read-far
-    mul-far-2
     slice-write-far
     add-i
     loop-less

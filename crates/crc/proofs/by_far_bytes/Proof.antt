@@ -1,5 +1,5 @@
--- `crc::by_far_words` meets its contract. The loop's invariant: the bytes that are left, with what the last 300 words add to them, make what all the
--- bytes make of the state, and at least 2,440 are left. The measure is what is left of the length. Assumes nothing.
+-- `crc::by_far_bytes` meets its contract. The loop's invariant: the bytes that are left, with what the last 300 bytes add to them, make what all the
+-- bytes make of the state, and at least 304 are left. The measure is what is left of the length. Assumes nothing.
 use mathlib.Core.Path.{_≡_, ap, _∙_}
 use mathlib.Core.List.{List}
 use Prim.Native.Nat.{ℕ, _+_, _-_, _≤_}
@@ -9,12 +9,12 @@ use borrow.Author.Needs.{needs}
 use Rattle.crc.specs.Crc.{bytesIn}
 use Rattle.crc.specs.Words.{spread}
 use Rattle.crc.proofs.Far.{block-left}
-use Rattle.crc.proofs.by_far_words.Statement.{statement}
-use Rattle.crc.proofs.by_far_words.Tie as tie
+use Rattle.crc.proofs.by_far_bytes.Statement.{statement}
+use Rattle.crc.proofs.by_far_bytes.Tie as tie
 
 abbrev Inv-loop : tie.InvT-loop
 Inv-loop t state part far₀ at₀ far at =
-    (at + 2440 ≤ length part) × (length far ≡ 900) × (bytesIn (spread (take 300 far)) (drop at part) ≡ bytesIn state part)
+    (at + 304 ≤ length part) × (length far ≡ 1900) × (bytesIn (spread (take 300 far)) (drop at part) ≡ bytesIn state part)
 
 abbrev μ-loop : tie.MeasureT-loop
 μ-loop t state part far₀ at₀ far at = length part - at
@@ -48,9 +48,6 @@ slice-aggregate-slide c = search needs
 slide-requires : tie.Need-slide-requires Inv-loop μ-loop
 slide-requires c κs = search needs
 
-mul-at : tie.Need-mul-at Inv-loop μ-loop
-mul-at c = search needs
-
 add-at : tie.Need-add-at Inv-loop μ-loop
 add-at c = search needs
 
@@ -74,28 +71,29 @@ slice-aggregate-clear c = search needs
 clear-requires : tie.Need-clear-requires Inv-loop μ-loop
 clear-requires c κs = search needs
 
-slice-aggregate-gather : tie.Need-slice-aggregate-gather Inv-loop μ-loop
-slice-aggregate-gather c = search needs
+slice-aggregate-mixed : tie.Need-slice-aggregate-mixed Inv-loop μ-loop
+slice-aggregate-mixed c = search needs
 
-gather-requires : tie.Need-gather-requires Inv-loop μ-loop
-gather-requires c κs = search needs
+mixed-requires : tie.Need-mixed-requires Inv-loop μ-loop
+mixed-requires c κs = search needs
 
-add-by-words : tie.Need-add-by-words Inv-loop μ-loop
-add-by-words c = search needs
+slice-aggregate-by-words : tie.Need-slice-aggregate-by-words Inv-loop μ-loop
+slice-aggregate-by-words c = search needs
 
 by-words-requires : tie.Need-by-words-requires Inv-loop μ-loop
 by-words-requires c κs = search needs
 
 returns : tie.Need-returns Inv-loop μ-loop
 returns c =
-    let head = c .before .before .before .before .before .before .before in
+    let mixes = c .before .before in
+    let head = mixes .before .before .before .before .before .before in
     let part = head .before .before .before .before .args .part .now in
-    c .by-words .ensures ∙ c .before .gather .ensures
-    ∙ ap (λ (l : List ℕ). bytesIn (spread l) (drop (head .loop .at) part)) (c .before .before .before .before .clear .ensures .0)
+    c .by-words .ensures ∙ mixes .mixed .ensures .1
+    ∙ ap (λ (l : List ℕ). bytesIn (spread l) (drop (head .loop .at) part)) (mixes .before .before .before .clear .ensures .0)
     ∙ head .loop .inv .2
 
-pub by-far-words-spec : {M : Type 1} → statement M
-by-far-words-spec =
+pub by-far-bytes-spec : {M : Type 1} → statement M
+by-far-bytes-spec =
     tie.close
     (tie.spec
     Inv-loop
@@ -109,14 +107,13 @@ by-far-words-spec =
     fill-requires
     slice-aggregate-slide
     slide-requires
-    mul-at
     add-at
     loop-less
     loop-again
     slice-aggregate-clear
     clear-requires
-    slice-aggregate-gather
-    gather-requires
-    add-by-words
+    slice-aggregate-mixed
+    mixed-requires
+    slice-aggregate-by-words
     by-words-requires
     returns)
