@@ -2,6 +2,8 @@
 // and two values beside it, which are 0 and 0 but for the numbers 17, 22 and 23.
 //
 // The table stands here and, under the same names, in specs/Table.antt; nowhere else does a number stand for itself.
+#![tactic(auto)]
+
 ghost use Rattle.std.specs.Prelude.{◌≡◌};
 ghost use Rattle.refusal.specs.Table.{plain_refusals, sequence_mismatch, field_too_large, unsupported_version};
 ghost use Rattle.refusal.specs.Verdict.{verdict_refusal};

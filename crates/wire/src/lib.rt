@@ -3,6 +3,8 @@
 //
 // Each function accepts every place. A byte read past the end counts as 0, and a byte stored past the end goes nowhere:
 // so says the definition that each contract cites, in specs/Wire.antt.
+#![tactic(auto)]
+
 ghost use Rattle.std.specs.Prelude.{◌≡◌, [], ◌∷◌, ◌⊎◌, ◌+◌, ◌≤◌, length, get_or, take, drop, replicate};
 ghost use Rattle.wire.specs.Wire.{be, be_val, word, put_at, starts_with};
 
