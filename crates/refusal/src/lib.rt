@@ -8,7 +8,7 @@ ghost use Rattle.std.specs.Prelude.{◌≡◌};
 ghost use Rattle.refusal.specs.Table.{plain_refusals, sequence_mismatch, field_too_large, unsupported_version};
 ghost use Rattle.refusal.specs.Verdict.{verdict_refusal};
 
-#[derive(Drop)]
+#[derive(Clone, Copy)]
 pub struct Refusal {
     pub number: u32,
     pub first: u64,
@@ -286,7 +286,7 @@ pub fn plain_refusals() -> [Refusal; 30]
 }
 
 // The answer of a call that gives nothing, or gives it elsewhere.
-#[derive(Drop)]
+#[derive(Clone, Copy)]
 pub enum Verdict {
     Granted,
     Refused(Refusal),
