@@ -17,14 +17,14 @@ pub const V2_ELEM_HDR_LEN: u64 = 28;
 pub const V2_ELEM_OVERHEAD: u64 = 44;
 
 // What a header says of its element. The position of the element before is an offset in the file, or 0.
-#[derive(Drop)]
+#[derive(Clone, Copy)]
 pub struct V2ElementHeader {
     pub payload_len: u64,
     pub seq: u64,
     pub prev_pos: u64,
 }
 
-#[derive(Drop)]
+#[derive(Clone, Copy)]
 pub enum ParsedHeader {
     Header(V2ElementHeader),
     Refused(Refusal),
@@ -43,7 +43,7 @@ impl ParsedHeader {
 }
 
 // The bytes of a header, or why there are none: then all of them are 0.
-#[derive(Drop)]
+#[derive(Clone, Copy)]
 pub struct EncodedHeader {
     pub answer: Verdict,
     pub bytes: [u8; 28],

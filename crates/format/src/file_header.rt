@@ -6,7 +6,7 @@ ghost use Rattle.format.specs.FileHeader.{judge_metadata, legacy_bytes, encode_l
 use refusal::{Refusal, Verdict};
 
 // What a file header says. The two positions are offsets in the file.
-#[derive(Drop)]
+#[derive(Clone, Copy)]
 pub struct QueueMetadata {
     pub file_len: u64,
     pub elem_cnt: u64,
@@ -14,7 +14,7 @@ pub struct QueueMetadata {
     pub last_pos: u64,
 }
 
-#[derive(Drop)]
+#[derive(Clone, Copy)]
 pub enum ParsedMetadata {
     Metadata(QueueMetadata),
     Refused(Refusal),
@@ -33,14 +33,14 @@ impl ParsedMetadata {
 }
 
 // The bytes of a Legacy header, or why there are none: then all of them are 0.
-#[derive(Drop)]
+#[derive(Clone, Copy)]
 pub struct EncodedLegacyHeader {
     pub answer: Verdict,
     pub bytes: [u8; 16],
 }
 
 // The bytes of a V1 header, or why there are none: then all of them are 0.
-#[derive(Drop)]
+#[derive(Clone, Copy)]
 pub struct EncodedV1Header {
     pub answer: Verdict,
     pub bytes: [u8; 32],

@@ -1,5 +1,7 @@
 // The formats of a queue file: an element's header and footer, the file headers that came before V2, what each format says
 // of its elements, and which of two header slots holds.
+#![tactic(auto)]
+
 mod element;
 mod file_header;
 mod slots;

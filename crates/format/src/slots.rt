@@ -6,13 +6,13 @@ use header::{HeaderSlot, ParsedSlot, SlotData, V2_DATA_START};
 use refusal::{Refusal, Verdict};
 
 // The slot that holds, and what it says.
-#[derive(Drop)]
+#[derive(Clone, Copy)]
 pub struct V2OpenState {
     pub active_slot: HeaderSlot,
     pub slot: SlotData,
 }
 
-#[derive(Drop)]
+#[derive(Clone, Copy)]
 pub enum Elected {
     Slot(V2OpenState),
     Refused(Refusal),

@@ -7,21 +7,21 @@ use header::{HeaderSlot, V2_DATA_START};
 use refusal::Refusal;
 
 // The state of a V2 file's header: the slot that holds, its generation, and the sequence that the next element gets.
-#[derive(Drop)]
+#[derive(Clone, Copy)]
 pub struct V2Format {
     pub active_slot: HeaderSlot,
     pub generation: u64,
     pub next_seq: u64,
 }
 
-#[derive(Drop)]
+#[derive(Clone, Copy)]
 pub enum FormatState {
     Legacy,
     V1,
     V2(V2Format),
 }
 
-#[derive(Drop)]
+#[derive(Clone, Copy)]
 pub enum Span {
     Of(u64),
     Refused(Refusal),

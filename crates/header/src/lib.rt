@@ -1,5 +1,7 @@
 // The header slots of a V2 file: which of the two is active, what a slot holds, and its 56 bytes both ways.
 // The bytes are laid out in specs/Slot.antt, as docs/FORMAT.md has them.
+#![tactic(auto)]
+
 ghost use Rattle.std.specs.Prelude.{◌≡◌};
 ghost use Rattle.header.specs.Slot.{other_slot, slot_offset, slot_bytes, judge_fields, encode_slot, slot_at, judge_slot, parse_slot, parsed_slot_refusal};
 
@@ -14,7 +16,7 @@ const SLOT_START: [u8; 8] = *b"QFMH\x02\x00\x00\x00";
 // The bytes of a slot.
 pub const V2_SLOT_LEN: u64 = 56;
 
-#[derive(Drop)]
+#[derive(Clone, Copy)]
 pub enum HeaderSlot {
     A,
     B,
@@ -43,7 +45,7 @@ impl HeaderSlot {
 }
 
 // What a slot holds. The two positions are offsets in the file, both 0 where the queue is empty.
-#[derive(Drop)]
+#[derive(Clone, Copy)]
 pub struct SlotData {
     pub file_length: u64,
     pub element_count: u32,
@@ -53,7 +55,7 @@ pub struct SlotData {
     pub next_sequence_number: u64,
 }
 
-#[derive(Drop)]
+#[derive(Clone, Copy)]
 pub enum ParsedSlot {
     Slot(SlotData),
     Refused(Refusal),
@@ -72,7 +74,7 @@ impl ParsedSlot {
 }
 
 // The bytes of a slot, or why there are none: then all of them are 0.
-#[derive(Drop)]
+#[derive(Clone, Copy)]
 pub struct EncodedSlot {
     pub answer: Verdict,
     pub bytes: [u8; 56],

@@ -8,7 +8,7 @@ use header::V2_DATA_START;
 use refusal::{Refusal, Verdict};
 
 // Where an element stands in the ring, the length of its payload and its sequence.
-#[derive(Drop)]
+#[derive(Clone, Copy)]
 pub struct Element {
     pub pos: u64,
     pub len: u64,

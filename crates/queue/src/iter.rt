@@ -10,14 +10,14 @@ use header::V2_DATA_START;
 use refusal::{Refusal, Verdict};
 
 // The element that comes next: how many came before it, and its place.
-#[derive(Drop)]
+#[derive(Clone, Copy)]
 pub struct Cursor {
     pub next_elem_index: u64,
     pub next_elem_pos: u64,
 }
 
 // An element that was handed out: what its header says, and where to go on. Its payload is at the output's front.
-#[derive(Drop)]
+#[derive(Clone, Copy)]
 pub struct Step {
     pub index: u64,
     pub elem: Element,
@@ -25,7 +25,7 @@ pub struct Step {
     pub next: Cursor,
 }
 
-#[derive(Drop)]
+#[derive(Clone, Copy)]
 pub enum Stepped {
     Element(Step),
     End,
@@ -118,7 +118,7 @@ impl QueueFile {
 }
 
 // A reader that remembers its place. It borrows the image, so that nothing is stored there as long as it is used.
-#[derive(Drop)]
+#[derive(Clone, Copy)]
 pub struct Iter<'a> {
     pub image: &'a [u8],
     pub state: QueueFile,
@@ -126,7 +126,7 @@ pub struct Iter<'a> {
 }
 
 // What a reader's step gives: the answer, and the reader to go on with.
-#[derive(Drop)]
+#[derive(Clone, Copy)]
 pub struct Next<'a> {
     pub stepped: Stepped,
     pub iter: Iter<'a>,

@@ -2,6 +2,8 @@
 //
 // The real length is the file's and stands in the state; the image may be longer. Where a state is not sound over its image, every
 // call that reads the image by it answers 28, and `peek_part` lends no bytes.
+#![tactic(auto)]
+
 mod element;
 mod iter;
 mod opening;

@@ -11,7 +11,7 @@ use header::{HeaderSlot, ParsedSlot, SlotData, V2_SLOT_LEN};
 use refusal::{Refusal, Verdict};
 use ring::Placed;
 
-#[derive(Drop)]
+#[derive(Clone, Copy)]
 pub enum Opened {
     Queue(QueueFile),
     Refused(Refusal),

@@ -11,7 +11,7 @@ use header::V2_DATA_START;
 use refusal::{Refusal, Verdict};
 
 // How many bytes were copied.
-#[derive(Drop)]
+#[derive(Clone, Copy)]
 pub enum Peeked {
     Payload(u64),
     Empty,
@@ -32,13 +32,13 @@ impl Peeked {
 }
 
 // Bytes of the image.
-#[derive(Drop)]
+#[derive(Clone, Copy)]
 pub struct Part {
     pub offset: u64,
     pub len: u64,
 }
 
-#[derive(Drop)]
+#[derive(Clone, Copy)]
 pub enum PeekedPlace {
     Payload(Part),
     Empty,

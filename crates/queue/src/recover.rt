@@ -9,7 +9,7 @@ use header::V2_DATA_START;
 use refusal::Refusal;
 use ring::Placed;
 
-#[derive(Drop)]
+#[derive(Clone, Copy)]
 pub enum Recovered {
     Head(Element),
     Refused(Refusal),

@@ -11,13 +11,13 @@ use header::V2_DATA_START;
 use refusal::Refusal;
 
 // What the caller chooses: the capacity is the file length to which a queue that is cleared goes back.
-#[derive(Drop)]
+#[derive(Clone, Copy)]
 pub struct Settings {
     pub capacity: u64,
     pub overwrite_on_remove: bool,
 }
 
-#[derive(Drop)]
+#[derive(Clone, Copy)]
 pub struct QueueFile {
     pub file_len: u64,
     pub real_len: u64,
@@ -29,7 +29,7 @@ pub struct QueueFile {
 }
 
 // A number of bytes.
-#[derive(Drop)]
+#[derive(Clone, Copy)]
 pub enum Count {
     Bytes(u64),
     Refused(Refusal),

@@ -3,6 +3,8 @@
 //
 // The image is lent and the file length given. Where there is no ring, since not 8192 < file length <= image length, every call but
 // `relocate` answers 28. The definitions and the private workers take the place where a ring starts as a parameter.
+#![tactic(auto)]
+
 mod parts;
 mod place;
 mod read;

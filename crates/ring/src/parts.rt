@@ -7,14 +7,14 @@ use header::V2_DATA_START;
 use refusal::Refusal;
 
 // The bytes before the ring's end, from an offset of the image on, and those that go on at the ring's start.
-#[derive(Drop)]
+#[derive(Clone, Copy)]
 pub struct Parts {
     pub offset: u64,
     pub front_len: u64,
     pub wrapped_len: u64,
 }
 
-#[derive(Drop)]
+#[derive(Clone, Copy)]
 pub enum Parted {
     Parts(Parts),
     Refused(Refusal),

@@ -5,7 +5,7 @@ ghost use Rattle.ring.specs.Ring.{has_ring, add_places, distance_of_places, plac
 use header::V2_DATA_START;
 use refusal::Refusal;
 
-#[derive(Drop)]
+#[derive(Clone, Copy)]
 pub enum Placed {
     At(u64),
     Refused(Refusal),

@@ -5,7 +5,7 @@ ghost use Rattle.writing.specs.Work.{changed_refusal};
 use queue::QueueFile;
 use refusal::Refusal;
 
-#[derive(Drop)]
+#[derive(Clone, Copy)]
 pub enum Changed {
     Queue(QueueFile),
     Refused(Refusal),

@@ -2,6 +2,8 @@
 // lends, and answers the state after it, or why there is none: then the image is as it was.
 //
 // An operation judges first and stores then: what judges takes the image to read, and what stores asks for what was judged.
+#![tactic(auto)]
+
 mod adding;
 mod answer;
 mod clearing;

@@ -14,7 +14,7 @@ use queue::{Element, QueueFile};
 use refusal::{Refusal, Verdict};
 
 // The element that a walk comes to.
-#[derive(Drop)]
+#[derive(Clone, Copy)]
 pub enum Skipped {
     To(Element),
     Refused(Refusal),
