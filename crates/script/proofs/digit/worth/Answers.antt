@@ -1,44 +1,36 @@
 -- `script::digit::worth` meets its contract: at each answer the tests that led there decide the definition's.
 -- Assumes nothing.
 use native.Mathlib.Omega.{arith}
-use borrow.Author.Rules.{rules}
 use borrow.Author.Tests.{le-leb, lt-leb}
 use Rattle.script.specs.Digit.{worth_of}
-use Rattle.script.proofs.digit.worth.Statement.{statement}
-use Rattle.script.proofs.digit.worth.Tie as tie
+use Rattle.script.proofs.digit.worth.Goals as goal
 
-add-result : tie.Need-overflow-add-result
-add-result c = search rules
-
-returns : tie.Need-returns
+pub returns-in-48-to-57 : goal.returns-in-48-to-57
 unfolding worth_of
-returns c =
-    let b = c.before.before.args.b in
+returns-in-48-to-57 c =
+    let b = c.args.b in
     rw (le-leb 48 b (omega arith), le-leb b 57 (omega arith))
 
-returns-2 : tie.Need-returns-2
+pub returns-in-97-to-102 : goal.returns-in-97-to-102
 unfolding worth_of
-returns-2 c =
-    let b = c.before.before.before.before.args.b in
+returns-in-97-to-102 c =
+    let b = c.args.b in
     rw (lt-leb b 57 (omega arith), le-leb 48 b (omega arith), le-leb 97 b (omega arith), le-leb b 102 (omega arith))
 
-returns-3 : tie.Need-returns-3
+pub returns-in_default : goal.returns-in_default
 unfolding worth_of
-returns-3 c =
-    let b = c.before.args.b in
+returns-in_default c =
+    let b = c.args.b in
     rw (lt-leb 48 b (omega arith), lt-leb 97 b (omega arith))
 
-returns-4 : tie.Need-returns-4
+pub returns-in_default-2 : goal.returns-in_default-2
 unfolding worth_of
-returns-4 c =
-    let b = c.before.before.before.args.b in
+returns-in_default-2 c =
+    let b = c.args.b in
     rw (le-leb 48 b (omega arith), lt-leb b 57 (omega arith), lt-leb 97 b (omega arith))
 
-returns-5 : tie.Need-returns-5
+pub returns-in_default-3 : goal.returns-in_default-3
 unfolding worth_of
-returns-5 c =
-    let b = c.before.before.before.before.args.b in
+returns-in_default-3 c =
+    let b = c.args.b in
     rw (le-leb 48 b (omega arith), lt-leb b 57 (omega arith), le-leb 97 b (omega arith), lt-leb b 102 (omega arith))
-
-pub worth_spec : {M : Type 1} → statement M
-worth_spec = tie.close (tie.spec add-result returns returns-2 returns-3 returns-4 returns-5)
