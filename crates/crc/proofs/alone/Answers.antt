@@ -2,12 +2,8 @@
 -- Assumes nothing.
 use Rattle.crc.specs.Words.{above}
 use Rattle.crc.proofs.Words.{above_zero}
-use Rattle.crc.proofs.alone.Statement.{statement}
-use Rattle.crc.proofs.alone.Tie as tie
+use Rattle.crc.proofs.alone.Goals as goal
 
-returns : tie.Need-returns
+pub returns : goal.returns
 unfolding above
 returns c = above_zero 64 c.args.state
-
-pub alone_spec : {M : Type 1} → statement M
-alone_spec = tie.close (tie.spec returns)

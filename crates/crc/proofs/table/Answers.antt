@@ -2,12 +2,8 @@
 -- Assumes nothing.
 use Rattle.crc.specs.Crc.{shift, shifts}
 use Rattle.crc.proofs.Rows.{tab, filled}
-use Rattle.crc.proofs.table.Statement.{statement}
-use Rattle.crc.proofs.table.Tie as tie
+use Rattle.crc.proofs.table.Goals as goal
 
-returns : tie.Need-returns
+pub returns : goal.returns
 unfolding tab shift shifts
 returns c = filled
-
-pub table_spec : {M : Type 1} → statement M
-table_spec = tie.close (tie.spec returns)

@@ -8,19 +8,14 @@ use Rattle.crc.specs.Crc.{shifts, bytes_in}
 use Rattle.crc.specs.Words.{above}
 use Rattle.crc.proofs.Words.{above_low}
 use Rattle.crc.proofs.Fold.{near-words, near_folded}
-use Rattle.crc.proofs.push.Statement.{statement}
-use Rattle.crc.proofs.push.Tie as tie
+use Rattle.crc.proofs.push.Goals as goal
 
-returns : tie.Need-returns
+pub returns : goal.returns
 returns c bs f =
-    let z = c.before.before.before.before in
-    let p = z.args.p in
-    let w = z.args.w in
+    let p = c.args.p in
+    let w = c.args.w in
     let l : bit_xor p.a w < 2 ^ 64 = xor_lt 64 p.a w (omega arith) (omega arith) in
     let h = above 64 p.b (above 64 p.c (above 64 p.d p.e)) in
     ap (λ (r : ℕ). bytes_in r bs) (near-words (bit_xor p.a w) l p.b p.c p.d p.e)
     ∙ near_folded (bit_xor p.a w) h l bs f
     ∙ ap (λ (r : ℕ). bytes_in (shifts 64 r) bs) (sym (above_low 64 p.a h w))
-
-pub push_spec : {M : Type 1} → statement M
-push_spec = tie.close (tie.spec returns)
