@@ -1,0 +1,20 @@
+-- `header::build_slot_bytes` meets its contract: the stores lay out a slot.
+-- Assumes nothing.
+use Rattle.crc.specs.Crc.{crc_of}
+use Rattle.header.specs.Slot.{slot_fields}
+use Rattle.header.proofs.Stores.{sealed, fields_laid}
+use Rattle.header.proofs.build_slot_bytes.Goals as goal
+
+pub returns : goal.returns
+returns c =
+    let d = c.args.«data» in
+    let fields =
+    fields_laid d
+    c.put.ensures
+    c.put_u64.ensures
+    c.put_u32.ensures
+    c.put_u64-2.ensures
+    c.put_u64-3.ensures
+    c.put_u64-4.ensures
+    c.put_u64-5.ensures in
+    sealed crc_of (slot_fields d) fields c.crc32-sum.ensures c.put_u32-2.ensures
