@@ -9,10 +9,8 @@ use Rattle.refusal.specs.declared.Verdict as Answer
 use Rattle.refusal.specs.declared.Verdict.TheVariants as Verdict
 use Rattle.wire.specs.Wire.{bytes_at, put_at}
 use Rattle.ring.specs.declared.place.Placed.{Placed}
-use Rattle.ring.specs.declared.place.Placed.TheVariants as Placed
 use Rattle.ring.specs.declared.parts.Parts.{Parts}
 use Rattle.ring.specs.declared.parts.Parted.{Parted}
-use Rattle.ring.specs.declared.parts.Parted.TheVariants as Parted
 
 -- ---- its bytes
 

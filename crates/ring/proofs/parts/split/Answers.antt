@@ -1,6 +1,6 @@
 -- `ring::parts::split` meets its contract: its tests are those of the definition, and its segment has as many bytes as the first
 -- part. Assumes nothing.
-use Rattle.std.proofs.lemmas.Bool.{not_from_true, not_from_false}
+use Rattle.std.proofs.lemmas.Bool.{not_from_true}
 use mathlib.Core.Path.{◌≡◌, ap}
 use Prim.Native.Nat.{ℕ, ◌+◌, ◌-◌, ◌%◌}
 use borrow.Author.Rules.{rules}

@@ -1,10 +1,8 @@
 -- `ring::place::add` meets its contract: its tests are those of the definition, and the sum that is reduced is one that a u64 holds.
 -- Assumes nothing.
-use Rattle.std.proofs.lemmas.Bool.{not_from_true, not_from_false}
+use Rattle.std.proofs.lemmas.Bool.{not_from_true}
 use mathlib.Core.Path.{ap}
-use Prim.Native.Nat.{◌+◌, ◌≤◌}
 use borrow.Author.Rules.{rules}
-use borrow.Author.Tests.{leb-true}
 use Rattle.refusal.proofs.Laws.{decide, met, flag_yes}
 use Rattle.ring.specs.declared.place.Placed.TheVariants as Placed
 use Rattle.ring.proofs.Places.{ring_known}

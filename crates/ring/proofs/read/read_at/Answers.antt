@@ -1,5 +1,5 @@
 -- `ring::read::read_at` meets its contract: where there is a ring, by `read_ring`, at the place within one turn. Assumes nothing.
-use Rattle.std.proofs.lemmas.Bool.{not_from_true, not_from_false}
+use Rattle.std.proofs.lemmas.Bool.{not_from_true}
 use mathlib.Core.Path.{refl, ◌∙◌}
 use borrow.Author.Rules.{rules}
 use Rattle.refusal.proofs.Laws.{decide, met, flag_yes}

@@ -1,16 +1,15 @@
 -- `ring::read::read_ring` meets its contract. The loop's invariant: what is left to read, from the ring's start on, stored behind what is
 -- read, makes of buf what it makes where the loop begins. Assumes nothing.
-use mathlib.Core.Path.{◌≡◌, refl, ◌∙◌}
+use mathlib.Core.Path.{◌≡◌, ◌∙◌}
 use mathlib.Core.List.{List}
 use Prim.Native.Nat.{ℕ, ◌-◌, ◌≤◌}
 use native.Mathlib.Omega.{arith}
 use lib.ListN.{length}
-use borrow.Author.Rules.{rules}
 use Rattle.wire.specs.Wire.{put_at}
 use Rattle.wire.proofs.Stores.{put_at_all}
 use Rattle.ring.specs.Ring.{ring_read}
 use Rattle.ring.proofs.Reading.{length_read}
-use Rattle.ring.proofs.Segments.{segment_some, read_first, read_next}
+use Rattle.ring.proofs.Segments.{read_first, read_next}
 use Rattle.ring.proofs.read.read_ring.Goals as goal
 
 -- where all is read, nothing is left to store

@@ -1,9 +1,7 @@
 -- `ring::relocation::relocate` meets its contract: its tests are those of the definition, and what they grant is what `relocate_bytes` asks.
 -- Assumes nothing.
-use Rattle.std.proofs.lemmas.Bool.{not_from_true, not_from_false}
+use Rattle.std.proofs.lemmas.Bool.{not_from_true}
 use mathlib.Core.Path.{refl}
-use borrow.Author.Rules.{rules}
-use borrow.Author.Tests.{leb-true}
 use Rattle.refusal.proofs.Laws.{decide, met, flag_yes}
 use Rattle.ring.proofs.relocation.relocate.Goals as goal
 

@@ -1,15 +1,9 @@
 -- `ring::relocation::relocate_bytes` meets its contract. The loop's invariant: what is left to copy makes of the image what the whole
 -- copy makes of the image that came in. Assumes nothing.
-use mathlib.Core.Path.{◌≡◌, refl, sym, ◌∙◌}
-use mathlib.Core.List.{List}
-use Prim.Native.Nat.{ℕ, ◌+◌, ◌-◌, ◌≤◌, ◌<◌}
-use native.Mathlib.Nat.{add-zero, sub-zero}
-use native.Mathlib.Omega.{arith}
+use mathlib.Core.Path.{◌≡◌}
+use Prim.Native.Nat.{◌+◌, ◌-◌, ◌≤◌}
 use lib.ListN.{length}
-use borrow.Author.Rules.{rules}
 use Rattle.ring.specs.Ring.{relocated}
-use Rattle.ring.proofs.Relocating.{relocate_on}
-use Rattle.ring.proofs.Segments.{segment_some}
 use Rattle.ring.proofs.relocation.relocate_bytes.Given as goal
 
 abbrev pub invariant-loop-done : goal.invariant-loop-done

@@ -1,7 +1,6 @@
 -- `ring::write::erase_ring` meets its contract: once round is enough, and once round is two parts of the image. Assumes nothing.
 use mathlib.Core.Path.{◌∙◌}
 use native.Mathlib.Omega.{arith}
-use borrow.Author.Rules.{rules}
 use Rattle.ring.proofs.Segments.{erase_parts}
 use Rattle.ring.proofs.write.erase_ring.Goals as goal
 

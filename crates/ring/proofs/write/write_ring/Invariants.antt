@@ -1,14 +1,9 @@
 -- `ring::write::write_ring` meets its contract. The loop's invariant: what is left to write, from the ring's start on, makes of the image
 -- what it makes where the loop begins. Assumes nothing.
-use mathlib.Core.Path.{◌≡◌, refl, sym, ◌∙◌}
-use mathlib.Core.List.{List}
-use Prim.Native.Nat.{ℕ, ◌-◌, ◌≤◌}
-use native.Mathlib.Omega.{arith}
-use lib.ListN.{length, drop, drop_of_length-le}
-use borrow.Author.Rules.{rules}
+use mathlib.Core.Path.{◌≡◌}
+use Prim.Native.Nat.{◌-◌, ◌≤◌}
+use lib.ListN.{length, drop}
 use Rattle.ring.specs.Ring.{ring_write}
-use Rattle.ring.proofs.Writing.{write_none}
-use Rattle.ring.proofs.Segments.{segment_some, write_first, write_next}
 use Rattle.ring.proofs.write.write_ring.Given as goal
 
 abbrev pub invariant-loop-done : goal.invariant-loop-done
