@@ -58,8 +58,8 @@ none-checked img q (Peeked.Payload n) k = absurd (not_first k)
 none-checked img q Peeked.Empty k = refl
 none-checked img q (Peeked.Refused r) k = refl
 
-pub none_output : (p : Peek.Peeked) (payload out : List ℕ) → OneOf (1 ∷ 2 ∷ []) (tag_of peeked p) → out ≡ peeked_output p payload out
-none_output (Peeked.Payload n) payload out k = absurd (not_first k)
+pub none_output : (p : Peek.Peeked) (payload out : List ℕ) → ((n : ℕ) → p ≡ Peeked.Payload n → ⊥) → out ≡ peeked_output p payload out
+none_output (Peeked.Payload n) payload out k = absurd (k n refl)
 none_output Peeked.Empty payload out k = refl
 none_output (Peeked.Refused r) payload out k = refl
 
