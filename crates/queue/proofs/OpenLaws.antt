@@ -21,7 +21,6 @@ use Rattle.format.specs.declared.slots.Elected.TheVariants as Elected
 use Rattle.format.specs.declared.element.V2ElementHeader.{V2ElementHeader}
 use Rattle.format.specs.declared.element.ParsedHeader.TheVariants as Parsed
 use Rattle.ring.specs.declared.place.Placed.{Placed}
-use Rattle.ring.specs.declared.place.Placed.TheVariants as Placed
 use Rattle.queue.specs.Answers.{on_header, on_place}
 use Rattle.queue.specs.Places.{to_logical}
 use Rattle.queue.specs.Element.{element_here, header_at, header_in_sequence}

@@ -7,7 +7,6 @@ use Rattle.refusal.specs.declared.Refusal.{Refusal}
 use Rattle.refusal.proofs.Laws.{pass}
 use Rattle.ring.specs.Ring.{ring_add, ring_distance, add_places, distance_of_places}
 use Rattle.ring.specs.declared.place.Placed.{Placed}
-use Rattle.ring.specs.declared.place.Placed.TheVariants as Placed
 use Rattle.ring.proofs.Places.{ring_there}
 
 pub add_known : (len file p d : ℕ) → 8192 < file → file ≤ len → p + d < 2 ^ 64 →

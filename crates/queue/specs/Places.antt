@@ -3,7 +3,6 @@ use Rattle.std.specs.Prelude.{ℕ, ◌-◌, leb}
 use Rattle.refusal.specs.Table.{backlink_low}
 use Rattle.refusal.specs.Demand.{demand}
 use Rattle.ring.specs.declared.place.Placed.{Placed}
-use Rattle.ring.specs.declared.place.Placed.TheVariants as Placed
 
 -- a physical place as a logical one, which is not bounded
 abbrev pub to_logical : ℕ → Placed

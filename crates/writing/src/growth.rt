@@ -1,7 +1,7 @@
 // What is asked before a file grows: the numbers, the new length, and where elements are to be moved, that the trail is whole.
 ghost use Rattle.std.specs.Prelude.{◌≡◌, true, ◌≤◌, length};
 ghost use Rattle.queue.specs.Element.{Lies};
-ghost use Rattle.queue.specs.State.{remaining_bytes, sound};
+ghost use Rattle.queue.specs.State.{remaining_bytes as remaining_of, sound};
 ghost use Rattle.writing.specs.Growth.{behind, end_of_last, wrapped, commits_growth, growth_commits, within_image, judge_length, walk_old_ring, check_growth, Planned};
 
 use crate::committing::judge_numbers;
@@ -43,7 +43,7 @@ pub(crate) fn wraps(q: QueueFile) -> bool
 // Whether growth commits: it moves last, and zeroes what it moved from.
 fn commits_growth(q: QueueFile, remaining_bytes: u64, data_len: u64) -> bool
     requires lies { (q.elem_cnt ≡ 0 → ⊥) → Lies q.file_len q.file_len q.last }
-    requires remaining_bytes_value { remaining_bytes ≡ remaining_bytes q }
+    requires remaining_bytes_value { remaining_bytes ≡ remaining_of q }
     ensures { result ≡ commits_growth q data_len }
 {
     if remaining_bytes >= data_len {
@@ -63,7 +63,7 @@ fn commits_growth(q: QueueFile, remaining_bytes: u64, data_len: u64) -> bool
 
 fn growth_commits(q: QueueFile, remaining_bytes: u64, data_len: u64) -> u64
     requires lies { (q.elem_cnt ≡ 0 → ⊥) → Lies q.file_len q.file_len q.last }
-    requires remaining_bytes_value { remaining_bytes ≡ remaining_bytes q }
+    requires remaining_bytes_value { remaining_bytes ≡ remaining_of q }
     ensures { (result ≡ growth_commits q data_len) × (result ≤ 1) }
 {
     if commits_growth(q, remaining_bytes, data_len) {
@@ -95,7 +95,7 @@ pub(crate) fn judge_length(
     commits: u64,
     elements: u64,
 ) -> Count
-    requires { (sound q image_len ≡ true) × (remaining_bytes ≡ remaining_bytes q) × (commits ≤ 1) × (elements ≤ 1) }
+    requires { (sound q image_len ≡ true) × (remaining_bytes ≡ remaining_of q) × (commits ≤ 1) × (elements ≤ 1) }
     ensures { result ≡ judge_length q image_len data_len commits elements }
 {
     let all = commits + growth_commits(q, remaining_bytes, data_len);

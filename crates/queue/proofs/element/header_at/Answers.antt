@@ -5,7 +5,6 @@ use Prim.Native.Nat.{ℕ, ◌-◌}
 use Rattle.format.specs.Element.{parse_header}
 use Rattle.ring.proofs.Calls.{on_ring}
 use Rattle.queue.specs.Element.{header_at}
-use borrow.Author.Rules.{rules}
 use Rattle.queue.proofs.element.header_at.Goals as goal
 
 pub returns : goal.returns

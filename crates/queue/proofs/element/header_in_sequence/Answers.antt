@@ -3,7 +3,6 @@ use mathlib.Core.Path.{refl, ap, sym, ◌∙◌}
 use borrow.Author.Tests.{eq-eqb, ne_eqb}
 use Rattle.refusal.proofs.Laws.{met, unmet}
 use Rattle.format.specs.declared.element.ParsedHeader.TheVariants as Parsed
-use borrow.Author.Rules.{rules}
 use Rattle.queue.proofs.element.header_in_sequence.Goals as goal
 
 pub returns-then-header-seq : goal.returns-then-header-seq

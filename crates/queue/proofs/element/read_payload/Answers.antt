@@ -1,10 +1,9 @@
 -- `queue::element::read_payload` meets its contract: the part of the output that is lent comes back with the payload. Assumes nothing.
-use mathlib.Core.Path.{◌≡◌, sym}
+use mathlib.Core.Path.{◌≡◌}
 use mathlib.Core.List.{List}
 use Prim.Native.Nat.{ℕ, ◌+◌, ◌-◌}
 use lib.ListN.{length, take}
 use lib.Seq.{length-take-le}
-use borrow.Author.Rules.{rules}
 use Rattle.ring.specs.Ring.{ring_read}
 use Rattle.ring.proofs.Calls.{on_ring}
 use Rattle.ring.proofs.Reading.{length_read}

@@ -2,7 +2,6 @@
 use mathlib.Core.Path.{◌∙◌}
 use Prim.Native.Nat.{◌+◌}
 use native.Mathlib.Omega.{arith}
-use borrow.Author.Rules.{rules}
 use Rattle.ring.proofs.Calls.{on_ring}
 use Rattle.queue.specs.Element.{payload_at, footer_verdict}
 use Rattle.queue.proofs.ElementLaws.{parts_joined}

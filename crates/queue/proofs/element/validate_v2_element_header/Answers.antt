@@ -2,7 +2,6 @@
 -- nothing.
 use Rattle.std.proofs.lemmas.Bool.{not_from_true, not_from_false}
 use mathlib.Core.Path.{sym, ◌∙◌}
-use borrow.Author.Rules.{rules}
 use Rattle.refusal.proofs.Laws.{pass, stop, flag_no, flag_yes}
 use Rattle.ring.proofs.Places.{ring_known}
 use Rattle.queue.proofs.element.validate_v2_element_header.Goals as goal

@@ -1,6 +1,5 @@
 -- `queue::opening::check_elected` meets its contract, case by case of the election and of the slot's check. Assumes nothing.
 use mathlib.Core.Path.{sym, ◌∙◌}
-use borrow.Author.Rules.{rules}
 use Rattle.queue.specs.Opening.{checked_state}
 use Rattle.queue.proofs.opening.check_elected.Goals as goal
 

@@ -1,7 +1,6 @@
 -- `queue::opening::first_element` meets its contract: where the header at first is valid it is taken, else the head is recovered.
 -- Assumes nothing.
 use mathlib.Core.Path.{sym, ◌∙◌}
-use borrow.Author.Rules.{rules}
 use Rattle.queue.specs.Opening.{first_element}
 use Rattle.queue.proofs.opening.first_element.Goals as goal
 

@@ -1,7 +1,6 @@
 -- `queue::opening::initialize_v2_endpoints` meets its contract: at each answer the definition has gone as far as the code, each step by
 -- what its call promises. Assumes nothing.
 use mathlib.Core.Path.{◌≡◌, sym, ◌∙◌}
-use borrow.Author.Rules.{rules}
 use Rattle.queue.specs.Opening.{with_ends, from_head, open_ends}
 use Rattle.queue.specs.declared.element.Element.{Element}
 use Rattle.queue.specs.declared.opening.Opened.TheVariants.{Queue}

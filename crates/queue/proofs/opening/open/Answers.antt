@@ -2,7 +2,6 @@
 -- That slot's check says what the ends need. Assumes nothing.
 use mathlib.Core.Path.{sym, ◌∙◌}
 use native.Mathlib.Nat.{le_trans}
-use borrow.Author.Rules.{rules}
 use borrow.Author.Tests.{eq-eqb, ne_eqb}
 use Rattle.queue.specs.Opening.{open_queue}
 use Rattle.queue.proofs.OpenLaws.{state_known}

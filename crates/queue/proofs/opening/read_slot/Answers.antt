@@ -1,14 +1,12 @@
 -- `queue::opening::read_slot` meets its contract: it parses the 56 bytes at the slot's offset, where the real length reaches their
 -- end. Assumes nothing.
 use mathlib.Core.Path.{refl, ap, ◌∙◌}
-use Prim.Native.Nat.{ℕ, ◌≤◌}
+use Prim.Native.Nat.{ℕ}
 use lib.ListN.{take, drop}
-use borrow.Author.Rules.{rules}
 use borrow.Author.Tests.{le-leb, lt-leb}
 use Rattle.refusal.proofs.Laws.{met, unmet}
 use Rattle.header.specs.Slot.{parse_slot}
 use Rattle.queue.specs.Opening.{tried_slot}
-use Rattle.queue.proofs.OpenLaws.{offset_low}
 use Rattle.queue.proofs.opening.read_slot.Goals as goal
 
 pub returns-then-real_len-offset : goal.returns-then-real_len-offset

@@ -1,7 +1,6 @@
 -- `queue::opening::read_v2_open_state` meets its contract: past its two tests it checks the slot that is elected of the two it reads.
 -- Assumes nothing.
 use mathlib.Core.Path.{ap, ◌∙◌}
-use borrow.Author.Rules.{rules}
 use borrow.Author.Tests.{le-leb, lt-ltb}
 use Rattle.refusal.proofs.Laws.{decide, met}
 use Rattle.format.specs.declared.slots.Elected.{Elected}

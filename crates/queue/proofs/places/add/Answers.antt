@@ -1,6 +1,5 @@
 -- `queue::places::add` meets its contract: the ring's call does not refuse what is known here. Assumes nothing.
 use Rattle.queue.proofs.PlaceLaws.{add_known, same_place, not_refused}
-use borrow.Author.Rules.{rules}
 use Rattle.queue.proofs.places.add.Goals as goal
 
 pub returns-in-At : goal.returns-in-At

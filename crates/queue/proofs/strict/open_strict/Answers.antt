@@ -2,7 +2,6 @@
 -- nothing.
 use Rattle.std.proofs.lemmas.Bool.{not_from_true, not_from_false}
 use mathlib.Core.Path.{sym, ◌∙◌}
-use borrow.Author.Rules.{rules}
 use Rattle.refusal.specs.Demand.{demand}
 use Rattle.refusal.proofs.Laws.{flag_no, flag_yes}
 use Rattle.queue.specs.Strict.{open_strictly}

@@ -1,7 +1,6 @@
 -- `queue::strict::strict_element` meets its contract: header, sequence, backlink and footer are asked for in the definition's order, and
 -- a header that is in sequence fits the ring, so that its footer can be read. Assumes nothing.
 use mathlib.Core.Path.{◌≡◌, sym, ◌∙◌}
-use borrow.Author.Rules.{rules}
 use borrow.Author.Tests.{eq-eqb, ne_eqb}
 use Rattle.refusal.specs.Demand.{demand}
 use Rattle.format.specs.declared.element.ParsedHeader.TheVariants as Parsed

@@ -1,15 +1,12 @@
 -- `queue::state::QueueFile::check_trail` meets its contract. The loop's invariant: the whole walk is what is left of it. Assumes nothing.
 use mathlib.Core.Path.{◌≡◌, sym, ◌∙◌}
-use Prim.Native.Nat.{◌+◌, ◌-◌, ◌^◌, ◌≤◌, ◌<◌}
+use Prim.Native.Nat.{◌-◌}
 use native.Mathlib.Nat.{sub-zero, mod-lt}
 use native.Mathlib.Omega.{arith}
-use lib.ListN.{length}
-use borrow.Author.Rules.{rules}
 use borrow.Author.Tests.{le-leb, lt-leb, eq-eqb, ne_eqb}
 use Rattle.refusal.specs.Demand.{demand}
-use Rattle.queue.specs.Element.{capacity}
 use Rattle.queue.specs.Strict.{trail_from, check_trail}
-use Rattle.queue.proofs.Sound.{Lengths, sound_lengths_lem, sound_numbers_lem, sound-ends}
+use Rattle.queue.proofs.Sound.{sound_lengths_lem, sound_numbers_lem, sound-ends}
 use Rattle.queue.proofs.Trail.{strict_fits, trail_unroll}
 use Rattle.queue.proofs.state.QueueFile.check_trail.Goals as goal
 

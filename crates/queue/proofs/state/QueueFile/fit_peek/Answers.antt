@@ -1,6 +1,5 @@
 -- `queue::state::QueueFile::fit_peek` meets its contract: its tests are those of the definition, in the same order.
 -- Assumes nothing.
-use borrow.Author.Rules.{rules}
 use borrow.Author.Tests.{eq-eqb, ne_eqb}
 use Rattle.refusal.proofs.Laws.{decide}
 use Rattle.queue.specs.Peek.{fit_peek}

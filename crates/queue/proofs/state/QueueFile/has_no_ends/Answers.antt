@@ -1,7 +1,6 @@
 -- `queue::state::QueueFile::has_no_ends` meets its contract: its tests are those of the definition. Assumes nothing.
 use Rattle.queue.specs.State.{no_ends}
 use Rattle.queue.proofs.Tests.{joined}
-use borrow.Author.Rules.{rules}
 use Rattle.queue.proofs.state.QueueFile.has_no_ends.Goals as goal
 
 pub returns-then-not-is_empty : goal.returns-then-not-is_empty

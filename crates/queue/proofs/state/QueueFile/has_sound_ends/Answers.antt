@@ -1,5 +1,5 @@
 -- `queue::state::QueueFile::has_sound_ends` meets its contract: its tests are those of the definition. Assumes nothing.
-use Rattle.std.proofs.lemmas.Bool.{not_from_true, not_from_false}
+use Rattle.std.proofs.lemmas.Bool.{not_from_true}
 use native.Mathlib.Omega.{arith}
 use Prim.Native.Nat.{◌-◌, ◌<◌}
 use borrow.Author.Tests.{lt-ltb, leb-true}
@@ -7,7 +7,6 @@ use Rattle.refusal.proofs.Laws.{flag_yes}
 use Rattle.queue.specs.State.{sound_ends}
 use Rattle.queue.proofs.Tests.{both, joined}
 use Rattle.queue.proofs.Sound.{lengths_known}
-use borrow.Author.Rules.{rules}
 use Rattle.queue.proofs.state.QueueFile.has_sound_ends.Goals as goal
 
 pub overflow_sub-capacity : goal.overflow_sub-capacity

@@ -1,9 +1,7 @@
 -- `queue::state::QueueFile::is_sound` meets its contract: its tests are those of the definition. Assumes nothing.
 use borrow.Author.Tests.{eq-eqb, ne_eqb}
-use Rattle.refusal.proofs.Laws.{flag_yes}
 use Rattle.queue.specs.State.{sound}
 use Rattle.queue.proofs.Tests.{joined}
-use borrow.Author.Rules.{rules}
 use Rattle.queue.proofs.state.QueueFile.is_sound.Goals as goal
 
 pub returns-then-not-has_sound_lengths : goal.returns-then-not-has_sound_lengths

@@ -1,10 +1,9 @@
 -- `queue::state::QueueFile::judge_step` meets its contract: its tests are those of the definition, and an element whose header is valid
 -- lies in the ring. Assumes nothing.
-use Rattle.std.proofs.lemmas.Bool.{not_from_true, not_from_false}
+use Rattle.std.proofs.lemmas.Bool.{not_from_true}
 use native.Mathlib.Omega.{arith}
 use mathlib.Core.Path.{◌≡◌, refl, sym, ◌∙◌}
 use lib.ListN.{length}
-use borrow.Author.Rules.{rules}
 use borrow.Author.Tests.{le-leb, lt-leb, lt-ltb}
 use Rattle.refusal.proofs.Laws.{decide, met, unmet, flag_yes}
 use Rattle.refusal.specs.Demand.{demand}

@@ -2,7 +2,6 @@
 -- otherwise the output is not touched. Assumes nothing.
 use mathlib.Core.Path.{ap, sym, ◌∙◌}
 use lib.ListN.{length}
-use borrow.Author.Rules.{rules}
 use Rattle.queue.specs.Element.{payload_at}
 use Rattle.queue.specs.Peek.{check_peek, judge_peek}
 use Rattle.queue.proofs.PeekLaws.{fit_known, checked_same, none_output}

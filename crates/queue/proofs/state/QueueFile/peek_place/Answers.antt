@@ -1,11 +1,10 @@
 -- `queue::state::QueueFile::peek_place` meets its contract: its tests are those of the definition, and the first element of a queue that
 -- has one lies in the ring. Assumes nothing.
-use Rattle.std.proofs.lemmas.Bool.{not_from_true, not_from_false}
+use Rattle.std.proofs.lemmas.Bool.{not_from_true}
 use Prim.Native.Nat.{◌+◌, ◌-◌, ◌%◌, ◌<◌}
 use native.Mathlib.Nat.{mod-lt}
 use native.Mathlib.Omega.{arith}
 use mathlib.Core.Path.{◌≡◌, refl, sym}
-use borrow.Author.Rules.{rules}
 use borrow.Author.Tests.{eq-eqb, ne_eqb, lt-leb, le-leb}
 use Rattle.refusal.proofs.Laws.{decide, met, unmet, flag_yes}
 use Rattle.refusal.specs.Demand.{demand}

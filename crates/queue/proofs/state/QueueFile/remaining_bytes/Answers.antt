@@ -1,10 +1,9 @@
 -- `queue::state::QueueFile::remaining_bytes` meets its contract: where the state is sound, by `used`. Assumes nothing.
-use Rattle.std.proofs.lemmas.Bool.{not_from_true, not_from_false}
+use Rattle.std.proofs.lemmas.Bool.{not_from_true}
 use mathlib.Core.Path.{ap}
 use Prim.Native.Nat.{ℕ, ◌-◌}
 use Rattle.queue.specs.declared.state.Count.TheVariants as Count
 use Rattle.refusal.proofs.Laws.{decide, met, flag_yes}
-use borrow.Author.Rules.{rules}
 use Rattle.queue.proofs.state.QueueFile.remaining_bytes.Goals as goal
 
 pub returns-then-not-is_sound : goal.returns-then-not-is_sound

@@ -1,8 +1,7 @@
 -- `queue::state::QueueFile::step` meets its contract: an element that is handed out lies in the ring and there is room for its payload, so
 -- it is read; otherwise the output is not touched. Assumes nothing.
 use mathlib.Core.Path.{sym, ◌∙◌}
-use borrow.Author.Rules.{rules}
-use Rattle.queue.proofs.IterLaws.{step_known, none_output}
+use Rattle.queue.proofs.IterLaws.{step_known}
 use Rattle.queue.proofs.state.QueueFile.step.Goals as goal
 
 pub read_payload-requires : goal.read_payload-requires

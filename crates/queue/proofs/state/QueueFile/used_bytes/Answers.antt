@@ -1,9 +1,8 @@
 -- `queue::state::QueueFile::used_bytes` meets its contract: where the state is sound, by `used`. Assumes nothing.
-use Rattle.std.proofs.lemmas.Bool.{not_from_true, not_from_false}
+use Rattle.std.proofs.lemmas.Bool.{not_from_true}
 use mathlib.Core.Path.{ap}
 use Rattle.queue.specs.declared.state.Count.TheVariants as Count
 use Rattle.refusal.proofs.Laws.{decide, met, flag_yes}
-use borrow.Author.Rules.{rules}
 use Rattle.queue.proofs.state.QueueFile.used_bytes.Goals as goal
 
 pub returns-then-not-is_sound : goal.returns-then-not-is_sound
