@@ -1,12 +1,10 @@
 -- A run, a turn at a time: what is left of it at a turn, by what the turn answers and leaves; and what is left behind the last.
 -- Assumes nothing.
 use mathlib.Core.Path.{◌≡◌, refl, sym}
-use mathlib.Core.List.{List, [], ◌∷◌}
+use mathlib.Core.List.{List}
 use Prim.Native.Nat.{ℕ, ◌+◌, ◌-◌, ◌<◌, ◌≤◌}
 use native.Mathlib.Omega.{arith}
 use lib.ListN.{length}
-use denote.Enum.Declared.{tag_of}
-use types.Run.{OneOf}
 use Rattle.queue.specs.Element.{payload_at}
 use Rattle.queue.specs.Opening.{open_queue}
 use Rattle.queue.specs.Peek.{judge_peek, peeked_output}
@@ -17,12 +15,10 @@ use Rattle.queue.specs.declared.opening.Opened.{Opened}
 use Rattle.queue.specs.declared.peek.Peeked as Peek
 use Rattle.queue.specs.declared.peek.Peeked.TheVariants as Peeked
 use Rattle.queue.specs.declared.iter.Cursor.{Cursor}
+use Rattle.queue.specs.declared.iter.Step.{Step}
 use Rattle.queue.specs.declared.iter.Stepped.{Stepped}
 use Rattle.queue.specs.declared.iter.Stepped.TheVariants.{Element, End, Refused}
 use Rattle.queue.proofs.Steps.{one_less}
-use Rattle.queue.proofs.Variants.{not_first}
-use Rattle.queue.specs.contracts.peek.Peeked.{the_type as peeked}
-use Rattle.queue.specs.contracts.iter.Stepped.{the_type as stepped}
 use Rattle.writing.specs.declared.answer.Changed.{Changed}
 use Rattle.exports.specs.Runs.{Run, settings_of, opened, on_changed, run_from, on_peeked, peeks_from, on_stepped, steps_from}
 
@@ -55,9 +51,9 @@ unfolding peeks_from
 peeks_turn q img n done out out' a h e o = rw (one_less n done h, sym e, o)
 
 -- a peek that hands out nothing ends them
-pub peeks_end : (a : Peek.Peeked) (out : List ℕ) (done : ℕ) (next : List ℕ → Run) → OneOf (1 ∷ 2 ∷ []) (tag_of peeked a) →
+pub peeks_end : (a : Peek.Peeked) (out : List ℕ) (done : ℕ) (next : List ℕ → Run) → ((n : ℕ) → a ≡ Peeked.Payload n → ⊥) →
     on_peeked a out done next ≡ (done, out)
-peeks_end (Peeked.Payload n) out done next k = absurd (not_first k)
+peeks_end (Peeked.Payload n) out done next k = absurd (k n refl)
 peeks_end Peeked.Empty out done next k = refl
 peeks_end (Peeked.Refused r) out done next k = refl
 
@@ -72,9 +68,9 @@ unfolding steps_from
 steps_turn q img n done c out out' a h e o = rw (one_less n done h, sym e, o)
 
 -- and so does a step
-pub steps_end : (a : Stepped) (out : List ℕ) (done : ℕ) (next : Cursor → List ℕ → Run) → OneOf (1 ∷ 2 ∷ []) (tag_of stepped a) →
+pub steps_end : (a : Stepped) (out : List ℕ) (done : ℕ) (next : Cursor → List ℕ → Run) → ((s : Step) → a ≡ Element s → ⊥) →
     on_stepped a out done next ≡ (done, out)
-steps_end (Element s) out done next k = absurd (not_first k)
+steps_end (Element s) out done next k = absurd (k s refl)
 steps_end End out done next k = refl
 steps_end (Refused r) out done next k = refl
 

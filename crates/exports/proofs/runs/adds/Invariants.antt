@@ -1,0 +1,14 @@
+-- `exports::runs::adds` meets its contract. The loop's invariant: the whole run is what is left of it, in an image that is as long as
+-- it was. Assumes nothing.
+use mathlib.Core.Path.{◌≡◌}
+use Prim.Native.Nat.{◌-◌}
+use lib.ListN.{length}
+use Rattle.writing.specs.Adding.{add_of}
+use Rattle.exports.specs.Runs.{run_from}
+use Rattle.exports.proofs.runs.adds.Given as goal
+
+abbrev pub invariant-loop-done : goal.invariant-loop-done
+invariant-loop-done l = (length l.image ≡ length l.initial.image) × (run_from (λ q. add_of q l.payload) l.n 0 l.initial.q l.initial.image ≡ run_from (λ q. add_of q l.payload) (l.n - l.done) l.done l.q l.image)
+
+abbrev pub decreases-loop-done : goal.decreases-loop-done
+decreases-loop-done l = l.n - l.done
