@@ -1,11 +1,13 @@
 -- Growth keeps the queue: the theorem. Assumes nothing.
-use mathlib.Core.Path.{◌≡◌, ap, ◌∙◌, subst}
+use mathlib.Core.Path.{◌≡◌, sym, ap, ◌∙◌, subst}
 use mathlib.Core.Bool.{true}
-use mathlib.Core.List.{List}
+use mathlib.Core.List.{List, ◌∷◌}
 use Prim.Native.Nat.{ℕ, ◌+◌, ◌^◌, ◌≤◌, ◌<◌}
 use lib.ListN.{length}
 use Rattle.refusal.proofs.Laws.{granted}
 use Rattle.queue.specs.State.{sound}
+use Rattle.queue.specs.Element.{capacity}
+use Rattle.queue.specs.declared.element.Element.{Element}
 use Rattle.queue.specs.declared.state.QueueFile.{QueueFile}
 use Rattle.queue.specs.declared.state.Count.TheVariants.{Bytes}
 use Rattle.queue.specs.declared.recover.Recovered.TheVariants.{Head}
@@ -14,11 +16,11 @@ use Rattle.writing.specs.Growth.{judge_length, check_growth}
 use Rattle.writing.specs.Expansion.{grown, judge_expansion, expand_of, Expands}
 use Rattle.writing.proofs.LengthLaws.{no_bytes_lem}
 use Rattle.writing.proofs.PlanLaws.{checked_planned, expansion_expands, expansion_sound}
-use Rattle.assurance.specs.Held.{elements_of, sequences_of, payloads_of}
+use Rattle.assurance.specs.Held.{Held, elements_of, sequences_of, payloads_of}
 use Rattle.assurance.specs.Linked.{Linked}
 use Rattle.assurance.specs.Growth.{grown_elements, Grown, GrowthKeepsQueue, GrowthStaysLinked}
 use Rattle.assurance.proofs.Laid.{Laid}
-use Rattle.assurance.proofs.Bridge.{Unrolled, linked_laid, laid_linked, laid_elements}
+use Rattle.assurance.proofs.Bridge.{held_all, Unrolled, linked_laid, laid_linked, laid_elements}
 use Rattle.assurance.proofs.LaidRecovery.{laid_trail, laid_recovers}
 use Rattle.assurance.proofs.Answered.{count_work}
 use Rattle.assurance.proofs.GrownState.{commits_at, grown-file, grown-first, planned_file, planned_numbers}
@@ -44,8 +46,13 @@ module _ (img : List ℕ) (q : QueueFile) (n : ℕ) (k : Linked img q) (least : 
   same_elements : elements_of q₁ img₁ ≡ grown_elements q q₁.file_len (elements_of q img)
   same_elements =
       laid_elements img₁ q₁ (grown_elem q n u.e) (grown_elems q n u.es) laid
-      ∙ rw (grown-file q img n least, grown-first q img n, laid_elements img q u.e u.es u.laid)
-      (grown_held img q u.e u.es n u.laid least x)
+      ∙ subst (λ (f : ℕ). held_all (capacity f) q₁.first.pos (grown_elems q n (u.e ∷ u.es)) ≡ grown_elements q f (elements_of q img))
+      (sym (grown-file q img n least))
+      (subst (λ (s : Element). held_all (capacity n) s.pos (grown_elems q n (u.e ∷ u.es)) ≡ grown_elements q n (elements_of q img))
+      (sym (grown-first q img n))
+      (subst (λ (l : List Held). held_all (capacity n) q.first.pos (grown_elems q n (u.e ∷ u.es)) ≡ grown_elements q n l)
+      (sym (laid_elements img q u.e u.es u.laid))
+      (grown_held img q u.e u.es n u.laid least x)))
 
   grown-linked : Grown img q img₁ q₁
   grown-linked = record {
