@@ -3,7 +3,7 @@ use queue::{Count, QueueFile, Step};
 use refusal::{Refusal, Verdict};
 
 // How an answer ends.
-#[derive(Drop)]
+#[derive(Clone, Copy)]
 pub enum Tail {
     Nothing,
     // The word of a queue that has no element.
@@ -20,7 +20,7 @@ pub enum Tail {
 
 // A refusal; where it is none, a letter, numbers, bytes and a tail, of which most answers have one kind or none. The answer to a line
 // that is no operation is bad, and the rest of it does not count.
-#[derive(Drop)]
+#[derive(Clone, Copy)]
 pub struct Answer {
     pub bad: bool,
     pub refusal: Refusal,

@@ -6,7 +6,7 @@ use crate::words::{Numbers, Shape, place};
 use crate::{on_ring, setup};
 use queue::QueueFile;
 
-#[derive(Drop)]
+#[derive(Clone, Copy)]
 pub enum BenchOperation {
     State,
     Poke,

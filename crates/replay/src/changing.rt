@@ -7,7 +7,7 @@ use crate::words::{Numbers, Shape, place};
 use queue::QueueFile;
 use writing::Changed;
 
-#[derive(Drop)]
+#[derive(Clone, Copy)]
 pub enum ChangingOperation {
     Fresh,
     Add,

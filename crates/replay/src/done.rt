@@ -3,13 +3,13 @@ use crate::answer::Answer;
 use queue::QueueFile;
 
 // The state, or nothing before the first and behind an image that was not opened.
-#[derive(Drop)]
+#[derive(Clone, Copy)]
 pub enum Held {
     Nothing,
     State(QueueFile),
 }
 
-#[derive(Drop)]
+#[derive(Clone, Copy)]
 pub struct Done {
     pub answer: Answer,
     pub after: Held,

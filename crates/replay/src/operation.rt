@@ -4,7 +4,7 @@ use crate::answer::Answer;
 use crate::words::{Numbers, Shape, place};
 use crate::{changing, checksum, elements, file_headers, slots};
 
-#[derive(Drop)]
+#[derive(Clone, Copy)]
 pub enum Operation {
     Crc,
     CrcJoined,

@@ -5,7 +5,7 @@ use crate::words::{Numbers, Shape, place};
 use crate::{on_queue, opening};
 use queue::QueueFile;
 
-#[derive(Drop)]
+#[derive(Clone, Copy)]
 pub enum ReadingOperation {
     Image,
     Reopen,

@@ -8,6 +8,8 @@ use crate::output::put_done;
 use crate::reading::ReadingOperation;
 use crate::words::{Words, read_words};
 use crate::{bench, changing, reading, setup};
+use std::io;
+use std::io::Write;
 
 // What goes from line to line: how many bytes wait in `buf`, and the state.
 #[derive(Drop)]
@@ -17,13 +19,14 @@ struct Progress {
 }
 
 // Runs every line, and answers how many bytes wait in `buf` at the end. What stands behind the last newline is a line if it has bytes.
-pub fn run_script(
+pub fn run_script<W: Write>(
+    out: &mut W,
     text: &[u8],
     room: &mut [u8],
     output: &mut [u8],
     image: &mut [u8],
     buf: &mut [u8],
-) -> usize {
+) -> io::Result<usize> {
     let mut progress = Progress {
         len: 0,
         held: Held::Nothing,
@@ -31,30 +34,31 @@ pub fn run_script(
     let mut at = 0;
     while at < text.len() {
         let end = script::line_end(text, at);
-        progress = run_line(&text[at..end], room, output, image, buf, progress);
+        progress = run_line(out, &text[at..end], room, output, image, buf, progress)?;
         at = end + 1;
     }
-    progress.len
+    Ok(progress.len)
 }
 
-fn run_line(
+fn run_line<W: Write>(
+    out: &mut W,
     line: &[u8],
     room: &mut [u8],
     output: &mut [u8],
     image: &mut [u8],
     buf: &mut [u8],
     progress: Progress,
-) -> Progress {
+) -> io::Result<Progress> {
     if is_silent(line) {
-        return progress;
+        return Ok(progress);
     }
     let held = progress.held;
     let done = do_line(line, room, output, image, held);
     let after = done.after;
-    Progress {
-        len: put_done(buf, progress.len, done, image, output),
+    Ok(Progress {
+        len: put_done(out, buf, progress.len, done, image, output)?,
         held: after,
-    }
+    })
 }
 
 // An empty line or a remark.

@@ -57,8 +57,8 @@ fn open_state(state: V2OpenState) -> Answer {
 
 pub fn letter(slot: HeaderSlot) -> u8 {
     match slot {
-        HeaderSlot::A => b'a',
-        HeaderSlot::B => b'b',
+        HeaderSlot::A => b'A',
+        HeaderSlot::B => b'B',
     }
 }
 

@@ -4,7 +4,7 @@ use script::{Bytes, Number};
 
 // How many words a line has, and which of them are byte strings or a flag. Words are counted from the operation's name, which is
 // word 0, so that 0 says that there is no such word. All others are numbers.
-#[derive(Drop)]
+#[derive(Clone, Copy)]
 pub struct Shape {
     pub count: usize,
     pub first_string: usize,
@@ -63,7 +63,7 @@ pub fn place(name: &[u8], names: &[u8]) -> usize {
     let count = script::count_words(names);
     let mut i = 0;
     while i < count {
-        if check::same(name, script::word(names, i)) {
+        if name == script::word(names, i) {
             return i;
         }
         i += 1;
@@ -119,7 +119,7 @@ fn string_at(line: &[u8], i: usize, room: &mut [u8], at: usize) -> Bytes {
 }
 
 // The numbers of a line, by the places of their words behind the name; 0 where there is a byte string or no word.
-#[derive(Drop)]
+#[derive(Clone, Copy)]
 pub struct Numbers {
     pub first: u64,
     pub second: u64,
