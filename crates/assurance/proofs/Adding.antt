@@ -11,7 +11,7 @@ use lib.Dec.{eqb}
 use borrow.Author.Tests.{eq-eqb, ne_eqb}
 use Rattle.format.specs.Element.{element_span}
 use Rattle.queue.specs.Element.{capacity}
-use Rattle.queue.specs.State.{ends_used, used_bytes, remaining_bytes, sound}
+use Rattle.queue.specs.State.{ends_used, used_bytes, remaining_bytes}
 use Rattle.queue.specs.declared.element.Element.{Element}
 use Rattle.queue.specs.declared.state.QueueFile.{QueueFile}
 use Rattle.writing.specs.Work.{Work}

@@ -14,7 +14,7 @@ use Rattle.format.specs.declared.element.ParsedHeader.{ParsedHeader}
 use Rattle.format.specs.declared.element.ParsedHeader.TheVariants as Parsed
 use Rattle.queue.specs.Element.{element, is_empty_element, in_sequence, header_in_sequence}
 use Rattle.queue.specs.Places.{to_logical}
-use Rattle.queue.specs.State.{no_ends, sound}
+use Rattle.queue.specs.State.{no_ends}
 use Rattle.queue.specs.Recover.{recover_head}
 use Rattle.queue.specs.Opening.{with_ends, or_recovered, first_element, open_ends, opened_from, from_state, open_queue}
 use Rattle.queue.specs.declared.element.Element.{Element}

@@ -22,7 +22,6 @@ use Rattle.queue.specs.Element.{capacity, element_here, payload_at, footer_verdi
 use Rattle.queue.specs.State.{sound}
 use Rattle.queue.specs.Peek.{fit_peek, check_peek, judge_peek}
 use Rattle.queue.specs.Iter.{cursor_at, start_of, step_here, step_on, judge_step, stepped_output, cursor_after}
-use Rattle.queue.specs.declared.element.Element.{Element}
 use Rattle.queue.specs.declared.state.QueueFile.{QueueFile}
 use Rattle.queue.specs.declared.peek.Peeked.TheVariants as Peeked
 use Rattle.queue.specs.declared.iter.Cursor.{Cursor}

@@ -1,8 +1,8 @@
 -- No second answer fits: what a public function promises leaves one answer at most, and one content at most of the bytes that it is
 -- lent to write. Each library has a module below, in which each of its public functions has a line, by the function's own name, with
--- the equations of its `ensures` word for word: s stands for `now s.entry`, the bytes at the start, and s' for `now s.exit`, the
--- bytes at the end. Of a part of the image that is handed back, r is the bytes. A reader holds the image by reference: there x stands
--- for `(x.entry)`, the reader or the reference as it was passed. A clause that is no equation only adds, and is left out.
+-- the equations of its `ensures` word for word: r stands for `result`, s for `s.now` or `s.old`, the bytes at the start, and s' for
+-- `s.new`, the bytes at the end. Of a part of the image that is handed back, r is the bytes. A reader holds the image by reference: there
+-- x stands for `x.entry`, the reader or the reference as it was passed. A clause that is no equation only adds, and is left out.
 --
 -- Two checks fit together here: `.ci/contracts` holds each promise to such equations, and each line to its promise; the proofs show
 -- that the equations leave one answer. That there is one at all is what each function's own proof shows. Assumes nothing.
