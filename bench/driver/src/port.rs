@@ -1,4 +1,4 @@
-//! The port's functions, as `crates/exports` exports them. A slice passes as its pointer and its length.
+//! The port's functions, as `crates/exports_c` exports them. A slice passes as its pointer and its length.
 
 extern "C" {
     fn port_crc32(part: *const u8, len: usize) -> u32;
