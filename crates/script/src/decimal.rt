@@ -4,7 +4,7 @@ ghost use Rattle.script.specs.Decimal.{number_of};
 
 use crate::digit::worth;
 
-#[derive(Drop)]
+#[derive(Clone, Copy)]
 pub enum Number {
     Of(u64),
     Bad,

@@ -6,7 +6,7 @@ ghost use Rattle.script.specs.Hex.{is_dash, is_hex, unhex, bytes_of};
 
 use crate::digit::worth;
 
-#[derive(Drop)]
+#[derive(Clone, Copy)]
 pub enum Bytes {
     Of(usize),
     Bad,
