@@ -56,7 +56,7 @@ fn write_element(
 }
 
 // The place behind last, or 0 in an empty queue.
-fn next_place_lem(q: QueueFile) -> u64
+fn next_place(q: QueueFile) -> u64
     requires { Extends q.file_len q }
     ensures { result ≡ next_place q }
 {
@@ -73,7 +73,7 @@ fn next_element(q: QueueFile, payload_len: u64) -> Element
 {
     let format = q.format;
     Element {
-        pos: next_place_lem(q),
+        pos: next_place(q),
         len: payload_len,
         seq: format.next_seq,
     }
