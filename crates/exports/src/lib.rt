@@ -1,4 +1,4 @@
-// What the benchmarks link from Rust: each function here is one of the library's, under a name of its own. Where the library
+// What the benchmarks call, by way of `exports_c`: each function here is one of the library's, under a name of its own. Where the library
 // answers with a verdict, its number is given, and 0 where nothing is refused. runs.rt has the queue's, many in one call.
 #![tactic(auto)]
 

@@ -5,10 +5,9 @@ use Prim.Native.Nat.{ℕ, suc, ◌+◌, ◌-◌, ◌%◌, ◌≤◌, ◌<◌}
 use native.Mathlib.Nat.{mod-lt, mod-eq_of_lt, mod-eq-sub-mod, mod-add-mod, add-mod_right, add-mod-mod, suc-mod}
 use native.Mathlib.Omega.{arith}
 use native.Mathlib.Decide.{dec_le}
-use mathlib.Core.Bool.{Bool, true, false, not, and-eq-true_iff}
+use mathlib.Core.Bool.{Bool, true, and-eq-true_iff}
 use lib.Dec.{ltb, leb}
 use borrow.Author.Tests.{ltb-true, leb-true, lt-ltb, le-leb}
-use Rattle.refusal.proofs.Laws.{flag_yes}
 use Rattle.ring.specs.Ring.{has_ring, ring_distance}
 
 -- ---- which rings there are
@@ -25,8 +24,8 @@ there_ring start len file e =
     (ltb-true start file b.0, leb-true file len b.1)
 
 -- the same, of the answer of `has_ring` where it is not refused
-pub ring_known : (start len file : ℕ) (t : Bool) → t ≡ has_ring start len file → not t ≡ false → (start < file) × (file ≤ len)
-ring_known start len file t e n = there_ring start len file (flag_yes t _ e n)
+pub ring_known : (start len file : ℕ) (t : Bool) → t ≡ has_ring start len file → t ≡ true → (start < file) × (file ≤ len)
+ring_known start len file t e y = there_ring start len file (sym e ∙ y)
 
 -- ---- when places are the same
 

@@ -1,12 +1,11 @@
 -- `queue::recover::recover_v2_head` meets its contract. The loop's invariant: the whole walk is what is left of it. Assumes nothing.
-use Rattle.std.proofs.lemmas.Bool.{not_from_true, not_from_false}
 use mathlib.Core.Path.{◌≡◌, ap, sym, ◌∙◌}
 use Prim.Native.Nat.{◌-◌}
 use native.Mathlib.Omega.{arith}
 use borrow.Author.Rules.{rules}
 use borrow.Author.Tests.{le-leb, lt-leb}
 use Rattle.refusal.specs.Demand.{demand}
-use Rattle.refusal.proofs.Laws.{flag_no, flag_yes, eq_neb, ne_neb}
+use Rattle.refusal.proofs.Laws.{eq_neb, ne_neb}
 use Rattle.ring.specs.Ring.{placed_refusal}
 use Rattle.ring.proofs.Places.{ring_known}
 use Rattle.format.specs.Element.{parsed_header_refusal}
@@ -17,38 +16,38 @@ use Rattle.queue.proofs.recover.recover_v2_head.Goals as goal
 
 pub returns-then-not-has_ring : goal.returns-then-not-has_ring
 unfolding recover_head demand
-returns-then-not-has_ring c = rw (flag_no _ _ c.has_ring.ensures (not_from_false _ c.if-not-has_ring.true))
+returns-then-not-has_ring c = rw (sym c.has_ring.ensures ∙ c.if-not-has_ring.true)
 
 pub returns-then-last_seq-step : goal.returns-then-last_seq-step
 unfolding demand
 returns-then-last_seq-step c =
-    rw (recover_here _ _ _ _ _ _ _ (flag_yes _ _ c.has_ring.ensures (not_from_true _ c.if-not-has_ring.false)) c.loop-step-test.true c.loop-step.invariant.1, lt-leb _ _ c.if-last_seq-step.true)
+    rw (recover_here _ _ _ _ _ _ _ (sym c.has_ring.ensures ∙ c.if-not-has_ring.false) c.loop-step-test.true c.loop-step.invariant.1, lt-leb _ _ c.if-last_seq-step.true)
 
 pub header_in_sequence-parsed-requires : goal.header_in_sequence-parsed-requires
 header_in_sequence-parsed-requires c =
-    ring_known _ _ _ _ c.has_ring.ensures (not_from_true _ c.if-not-has_ring.false)
+    ring_known _ _ _ _ c.has_ring.ensures c.if-not-has_ring.false
 
 pub returns-in_default : goal.returns-in_default
 unfolding demand
 returns-in_default c =
-    rw (recover_here _ _ _ _ _ _ _ (flag_yes _ _ c.has_ring.ensures (not_from_true _ c.if-not-has_ring.false)) c.loop-step-test.true c.loop-step.invariant.1, le-leb _ _ c.if-last_seq-step.false, sym c.header_in_sequence-parsed.ensures ∙ c.in_default.is)
+    rw (recover_here _ _ _ _ _ _ _ (sym c.has_ring.ensures ∙ c.if-not-has_ring.false) c.loop-step-test.true c.loop-step.invariant.1, le-leb _ _ c.if-last_seq-step.false, sym c.header_in_sequence-parsed.ensures ∙ c.in_default.is)
     (ap Refused (c.refusal.ensures ∙ ap parsed_header_refusal c.in_default.is))
 
 pub returns-then-step-elem_cnt : goal.returns-then-step-elem_cnt
 unfolding demand
 returns-then-step-elem_cnt c =
-    rw (recover_here _ _ _ _ _ _ _ (flag_yes _ _ c.has_ring.ensures (not_from_true _ c.if-not-has_ring.false)) c.loop-step-test.true c.loop-step.invariant.1, le-leb _ _ c.if-last_seq-step.false, sym c.header_in_sequence-parsed.ensures ∙ c.in-Header.is, none_left _ _ c.if-step-elem_cnt.true)
+    rw (recover_here _ _ _ _ _ _ _ (sym c.has_ring.ensures ∙ c.if-not-has_ring.false) c.loop-step-test.true c.loop-step.invariant.1, le-leb _ _ c.if-last_seq-step.false, sym c.header_in_sequence-parsed.ensures ∙ c.in-Header.is, none_left _ _ c.if-step-elem_cnt.true)
     (ap Head c.here.ensures)
 
 pub returns-then-header-eq0 : goal.returns-then-header-eq0
 unfolding demand
 returns-then-header-eq0 c =
-    rw (recover_here _ _ _ _ _ _ _ (flag_yes _ _ c.has_ring.ensures (not_from_true _ c.if-not-has_ring.false)) c.loop-step-test.true c.loop-step.invariant.1, le-leb _ _ c.if-last_seq-step.false, sym c.header_in_sequence-parsed.ensures ∙ c.in-Header.is, some_left _ _ c.loop-step-test.true c.if-step-elem_cnt.false, eq_neb _ _ c.if-header-eq0.true)
+    rw (recover_here _ _ _ _ _ _ _ (sym c.has_ring.ensures ∙ c.if-not-has_ring.false) c.loop-step-test.true c.loop-step.invariant.1, le-leb _ _ c.if-last_seq-step.false, sym c.header_in_sequence-parsed.ensures ∙ c.in-Header.is, some_left _ _ c.loop-step-test.true c.if-step-elem_cnt.false, eq_neb _ _ c.if-header-eq0.true)
 
 pub returns-in_default-before : goal.returns-in_default-before
 unfolding demand
 returns-in_default-before c =
-    rw (recover_here _ _ _ _ _ _ _ (flag_yes _ _ c.has_ring.ensures (not_from_true _ c.if-not-has_ring.false)) c.loop-step-test.true c.loop-step.invariant.1, le-leb _ _ c.if-last_seq-step.false, sym c.header_in_sequence-parsed.ensures ∙ c.in-Header.is, some_left _ _ c.loop-step-test.true c.if-step-elem_cnt.false, ne_neb _ _ c.if-header-eq0.false, sym c.to_logical-before.ensures ∙ c.in_default-before.is)
+    rw (recover_here _ _ _ _ _ _ _ (sym c.has_ring.ensures ∙ c.if-not-has_ring.false) c.loop-step-test.true c.loop-step.invariant.1, le-leb _ _ c.if-last_seq-step.false, sym c.header_in_sequence-parsed.ensures ∙ c.in-Header.is, some_left _ _ c.loop-step-test.true c.if-step-elem_cnt.false, ne_neb _ _ c.if-header-eq0.false, sym c.to_logical-before.ensures ∙ c.in_default-before.is)
     (ap Refused (c.refusal-in_default-before.ensures ∙ ap placed_refusal c.in_default-before.is))
 
 pub loop-step-preserved : goal.loop-step-preserved
@@ -62,4 +61,4 @@ pub returns : goal.returns
 unfolding recover_from
 returns c =
     let z : c.args.elem_cnt - c.loop-step.step ≡ 0 = omega arith in
-    rw (recover_opens _ _ _ _ _ (flag_yes _ _ c.has_ring.ensures (not_from_true _ c.if-not-has_ring.false)), c.loop-step.invariant.1, z)
+    rw (recover_opens _ _ _ _ _ (sym c.has_ring.ensures ∙ c.if-not-has_ring.false), c.loop-step.invariant.1, z)

@@ -1,9 +1,7 @@
 -- `queue::strict::open_strict` meets its contract: a plain opening, then soundness, then the trail, in the definition's order. Assumes
 -- nothing.
-use Rattle.std.proofs.lemmas.Bool.{not_from_true, not_from_false}
 use mathlib.Core.Path.{sym, ◌∙◌}
 use Rattle.refusal.specs.Demand.{demand}
-use Rattle.refusal.proofs.Laws.{flag_no, flag_yes}
 use Rattle.queue.specs.Strict.{open_strictly}
 use Rattle.queue.proofs.strict.open_strict.Goals as goal
 
@@ -15,14 +13,14 @@ returns-in_default c =
 pub returns-then-not-is_sound : goal.returns-then-not-is_sound
 unfolding open_strictly demand
 returns-then-not-is_sound c =
-    rw (sym c.open-opened.ensures ∙ c.in-Queue.is, flag_no _ _ c.is_sound.ensures (not_from_false _ c.if-not-is_sound.true))
+    rw (sym c.open-opened.ensures ∙ c.in-Queue.is, sym c.is_sound.ensures ∙ c.if-not-is_sound.true)
 
 pub returns-in-Granted : goal.returns-in-Granted
 unfolding open_strictly demand
 returns-in-Granted c =
     rw (
       sym c.open-opened.ensures ∙ c.in-Queue.is,
-      flag_yes _ _ c.is_sound.ensures (not_from_true _ c.if-not-is_sound.false),
+      sym c.is_sound.ensures ∙ c.if-not-is_sound.false,
       sym c.check_trail.ensures ∙ c.in-Granted.is,
     )
 
@@ -31,6 +29,6 @@ unfolding open_strictly demand
 returns-in-Refused c =
     rw (
       sym c.open-opened.ensures ∙ c.in-Queue.is,
-      flag_yes _ _ c.is_sound.ensures (not_from_true _ c.if-not-is_sound.false),
+      sym c.is_sound.ensures ∙ c.if-not-is_sound.false,
       sym c.check_trail.ensures ∙ c.in-Refused.is,
     )

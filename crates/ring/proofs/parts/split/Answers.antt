@@ -1,11 +1,10 @@
 -- `ring::parts::split` meets its contract: its tests are those of the definition, and its segment has as many bytes as the first
 -- part. Assumes nothing.
-use Rattle.std.proofs.lemmas.Bool.{not_from_true}
-use mathlib.Core.Path.{◌≡◌, ap}
+use mathlib.Core.Path.{◌≡◌, ap, sym, ◌∙◌}
 use Prim.Native.Nat.{ℕ, ◌+◌, ◌-◌, ◌%◌}
 use borrow.Author.Rules.{rules}
 use borrow.Author.Tests.{le-leb}
-use Rattle.refusal.proofs.Laws.{decide, met, flag_yes}
+use Rattle.refusal.proofs.Laws.{decide, met}
 use Rattle.ring.specs.Ring.{Segment, parts_of}
 use Rattle.ring.specs.declared.parts.Parted.TheVariants as Parted
 use Rattle.ring.proofs.Places.{ring_known}
@@ -24,7 +23,7 @@ returns-then-not-has_ring c = search decide
 
 pub overflow_sub-capacity : goal.overflow_sub-capacity
 overflow_sub-capacity c =
-    let l = ring_known _ _ _ _ c.has_ring.ensures (not_from_true _ c.if-not-has_ring.false) in
+    let l = ring_known _ _ _ _ c.has_ring.ensures c.if-not-has_ring.false in
     search rules
 
 pub returns-then-len-capacity : goal.returns-then-len-capacity
@@ -32,11 +31,11 @@ returns-then-len-capacity c = search decide
 
 pub reduced-at-requires : goal.reduced-at-requires
 reduced-at-requires c =
-    let l = ring_known _ _ _ _ c.has_ring.ensures (not_from_true _ c.if-not-has_ring.false) in
+    let l = ring_known _ _ _ _ c.has_ring.ensures c.if-not-has_ring.false in
     search rules
 
 pub returns : goal.returns
 returns c =
-    met _ _ _ (flag_yes _ _ c.has_ring.ensures (not_from_true _ c.if-not-has_ring.false))
+    met _ _ _ (sym c.has_ring.ensures ∙ c.if-not-has_ring.false)
     (met _ _ _ (le-leb _ _ c.if-len-capacity.false)
     (ap Parted.Parts (made 8192 _ _ _ _ _ c.reduced-at.ensures.0 c.segment-front_len.ensures)))

@@ -1,8 +1,7 @@
 -- `ring::relocation::relocate` meets its contract: its tests are those of the definition, and what they grant is what `relocate_bytes` asks.
 -- Assumes nothing.
-use Rattle.std.proofs.lemmas.Bool.{not_from_true}
-use mathlib.Core.Path.{refl}
-use Rattle.refusal.proofs.Laws.{decide, met, flag_yes}
+use mathlib.Core.Path.{refl, sym, ◌∙◌}
+use Rattle.refusal.proofs.Laws.{decide, met}
 use Rattle.ring.proofs.relocation.relocate.Goals as goal
 
 pub returns-then-not-sum_within : goal.returns-then-not-sum_within
@@ -20,7 +19,7 @@ returns-then-not-sum_within-2 c = record {
 pub returns : goal.returns
 returns c =
     record {
-      value = met _ _ _ (flag_yes _ _ c.sum_within.ensures (not_from_true _ c.if-not-sum_within.false))
-          (met _ _ _ (flag_yes _ _ c.sum_within-2.ensures (not_from_true _ c.if-not-sum_within-2.false)) refl);
+      value = met _ _ _ (sym c.sum_within.ensures ∙ c.if-not-sum_within.false)
+          (met _ _ _ (sym c.sum_within-2.ensures ∙ c.if-not-sum_within-2.false) refl);
       image_after = c.relocate_bytes.ensures;
     }

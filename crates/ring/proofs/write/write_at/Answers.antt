@@ -1,8 +1,7 @@
 -- `ring::write::write_at` meets its contract: where there is a ring, by `write_ring`, at the place within one turn. Assumes nothing.
-use Rattle.std.proofs.lemmas.Bool.{not_from_true}
-use mathlib.Core.Path.{refl, ◌∙◌}
+use mathlib.Core.Path.{refl, ◌∙◌, sym}
 use borrow.Author.Rules.{rules}
-use Rattle.refusal.proofs.Laws.{decide, met, flag_yes}
+use Rattle.refusal.proofs.Laws.{decide, met}
 use Rattle.ring.proofs.Places.{ring_known}
 use Rattle.ring.proofs.Writing.{write_mod}
 use Rattle.ring.proofs.write.write_at.Goals as goal
@@ -15,22 +14,22 @@ returns-then-not-has_ring c = record {
 
 pub overflow_sub-capacity : goal.overflow_sub-capacity
 overflow_sub-capacity c =
-    let l = ring_known _ _ _ _ c.has_ring.ensures (not_from_true _ c.if-not-has_ring.false) in
+    let l = ring_known _ _ _ _ c.has_ring.ensures c.if-not-has_ring.false in
     search rules
 
 pub reduced-pos-requires : goal.reduced-pos-requires
 reduced-pos-requires c =
-    let l = ring_known _ _ _ _ c.has_ring.ensures (not_from_true _ c.if-not-has_ring.false) in
+    let l = ring_known _ _ _ _ c.has_ring.ensures c.if-not-has_ring.false in
     search rules
 
 pub write_ring-requires : goal.write_ring-requires
 write_ring-requires c =
-    let l = ring_known _ _ _ _ c.has_ring.ensures (not_from_true _ c.if-not-has_ring.false) in
+    let l = ring_known _ _ _ _ c.has_ring.ensures c.if-not-has_ring.false in
     search rules
 
 pub returns : goal.returns
 returns c =
     record {
-      value = met _ _ _ (flag_yes _ _ c.has_ring.ensures (not_from_true _ c.if-not-has_ring.false)) refl;
+      value = met _ _ _ (sym c.has_ring.ensures ∙ c.if-not-has_ring.false) refl;
       image_after = c.write_ring.ensures ∙ rw c.reduced-pos.ensures.0 (write_mod _ _ _ _ _);
     }

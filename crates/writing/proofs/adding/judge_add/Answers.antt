@@ -17,23 +17,30 @@ returns-in_default c =
 
 pub returns-then-payload_len-ge2147483648 : goal.returns-then-payload_len-ge2147483648
 unfolding judge_add
-returns-then-payload_len-ge2147483648 c = met _ _ _ (remaining_known c.args.q c.args.image_len _ _ c.remaining_bytes.ensures c.in-Bytes.is).0 (sym (stop _ _ _ (le-ltb _ _ c.if-payload_len-ge2147483648.true)))
+returns-then-payload_len-ge2147483648 c =
+    let k = remaining_known c.args.q c.args.image_len _ _ c.remaining_bytes.ensures c.in-Bytes.is in
+    met _ _ _ k.0 (sym (stop _ _ _ (le-ltb _ _ c.if-payload_len-ge2147483648.true)))
 
 pub overflow_add-q : goal.overflow_add-q
 overflow_add-q c =
-    let a = c.args in
-    omega (arith, (sound_numbers_lem a.q a.image_len (remaining_known c.args.q c.args.image_len _ _ c.remaining_bytes.ensures c.in-Bytes.is).0).count)
+    let k = remaining_known c.args.q c.args.image_len _ _ c.remaining_bytes.ensures c.in-Bytes.is in
+    omega (arith, (sound_numbers_lem c.args.q c.args.image_len k.0).count)
 
 pub returns-then-q-ge2147483647 : goal.returns-then-q-ge2147483647
 unfolding judge_add
 returns-then-q-ge2147483647 c =
-    met _ _ _ (remaining_known c.args.q c.args.image_len _ _ c.remaining_bytes.ensures c.in-Bytes.is).0 (met _ _ _ (lt-ltb _ _ c.if-payload_len-ge2147483648.false) (sym (stop _ _ _ (le-ltb _ _ c.if-q-ge2147483647.true))))
+    let k = remaining_known c.args.q c.args.image_len _ _ c.remaining_bytes.ensures c.in-Bytes.is in
+    met _ _ _ k.0
+    (met _ _ _ (lt-ltb _ _ c.if-payload_len-ge2147483648.false) (sym (stop _ _ _ (le-ltb _ _ c.if-q-ge2147483647.true))))
 
 pub judge_length-requires : goal.judge_length-requires
-judge_length-requires c = let k = remaining_known c.args.q c.args.image_len _ _ c.remaining_bytes.ensures c.in-Bytes.is in (k.0, k.1, omega arith, omega arith)
+judge_length-requires c =
+    let k = remaining_known c.args.q c.args.image_len _ _ c.remaining_bytes.ensures c.in-Bytes.is in
+    (k.0, k.1, omega arith, omega arith)
 
 pub returns : goal.returns
 unfolding judge_add
 returns c =
-    met _ _ _ (remaining_known c.args.q c.args.image_len _ _ c.remaining_bytes.ensures c.in-Bytes.is).0
+    let k = remaining_known c.args.q c.args.image_len _ _ c.remaining_bytes.ensures c.in-Bytes.is in
+    met _ _ _ k.0
     (met _ _ _ (lt-ltb _ _ c.if-payload_len-ge2147483648.false) (met _ _ _ (lt-ltb _ _ c.if-q-ge2147483647.false) c.judge_length.ensures))

@@ -1,12 +1,10 @@
 -- `writing::expansion::expand` meets its contract: the file is lengthened, and where the elements wrap, they are laid straight; the end of
 -- last is then not behind first, so that what is moved lies in the old ring. Assumes nothing.
-use Rattle.std.proofs.lemmas.Bool.{not_from_true, not_from_false}
-use mathlib.Core.Path.{◌≡◌, ap, ◌∙◌}
+use mathlib.Core.Path.{◌≡◌, ap, ◌∙◌, sym}
 use mathlib.Core.List.{List}
 use Prim.Native.Nat.{ℕ}
 use native.Mathlib.Omega.{arith}
 use lib.ListN.{length}
-use Rattle.refusal.proofs.Laws.{flag_no, flag_yes}
 use Rattle.queue.specs.declared.state.QueueFile.{QueueFile}
 use Rattle.queue.proofs.Sound.{sound_numbers_lem, first_lies}
 use Rattle.writing.specs.Work.{Work, with_length}
@@ -27,17 +25,17 @@ wraps-requires c =
 pub returns-then-not-wraps : goal.returns-then-not-wraps
 unfolding expanded
 returns-then-not-wraps c =
-    rw (flag_no _ _ c.wraps.ensures (not_from_false _ c.if-not-wraps.true)) c.lengthen-longer.ensures
+    rw (sym c.wraps.ensures ∙ c.if-not-wraps.true) c.lengthen-longer.ensures
 
 pub end_of_last-requires : goal.end_of_last-requires
 end_of_last-requires c =
-    last_stands c.args.q (length c.args.image.now) c.requires.sound (wrapped-some c.args.q (flag_yes _ _ c.wraps.ensures (not_from_true _ c.if-not-wraps.false)))
+    last_stands c.args.q (length c.args.image.now) c.requires.sound (wrapped-some c.args.q (sym c.wraps.ensures ∙ c.if-not-wraps.false))
 
 pub relocate_wrapped_data-requires : goal.relocate_wrapped_data-requires
 relocate_wrapped_data-requires c =
     let q = c.args.q in
     let x = c.requires in
-    let y = flag_yes _ _ c.wraps.ensures (not_from_true _ c.if-not-wraps.false) in
+    let y = sym c.wraps.ensures ∙ c.if-not-wraps.false in
     let f = first_lies q (length c.args.image.now) x.sound (wrapped-some q y) in
     let n = sound_numbers_lem q (length c.args.image.now) x.sound in
     let e = wrapped-end q y in
@@ -51,4 +49,4 @@ unfolding expanded
 returns c =
     let q = c.args.q in
     let laid = rw c.end_of_last.ensures at c.relocate_wrapped_data.ensures in
-    rw (flag_yes _ _ c.wraps.ensures (not_from_true _ c.if-not-wraps.false)) (laid ∙ ap (laid_straight q.file_len (end_of_last q)) c.lengthen-longer.ensures)
+    rw (sym c.wraps.ensures ∙ c.if-not-wraps.false) (laid ∙ ap (laid_straight q.file_len (end_of_last q)) c.lengthen-longer.ensures)

@@ -1,10 +1,8 @@
 -- `writing::growth::check_growth` meets its contract: a refusal stays, and so does a length but where the file is to be longer, wraps, and
 -- its walk is refused. Assumes nothing.
-use Rattle.std.proofs.lemmas.Bool.{not_from_true, not_from_false}
 use mathlib.Core.Path.{sym, ◌∙◌}
 use lib.ListN.{length}
 use borrow.Author.Tests.{lt-ltb, le-ltb}
-use Rattle.refusal.proofs.Laws.{flag_no, flag_yes}
 use Rattle.writing.specs.Growth.{walked}
 use Rattle.writing.proofs.StateLaws.{last_stands, wrapped-some}
 use Rattle.writing.proofs.growth.check_growth.Goals as goal
@@ -20,11 +18,11 @@ wraps-requires c =
 pub returns-then-not-wraps : goal.returns-then-not-wraps
 unfolding walked
 returns-then-not-wraps c =
-    rw (c.in-Bytes.is, lt-ltb _ _ c.if-new_len-q.false, flag_no _ _ c.wraps.ensures (not_from_false _ c.if-not-wraps.true))
+    rw (c.in-Bytes.is, lt-ltb _ _ c.if-new_len-q.false, sym c.wraps.ensures ∙ c.if-not-wraps.true)
 
 pub check_old_ring-requires : goal.check_old_ring-requires
 check_old_ring-requires c =
-    (c.requires _ c.in-Bytes.is, wrapped-some c.args.q (flag_yes _ _ c.wraps.ensures (not_from_true _ c.if-not-wraps.false)))
+    (c.requires _ c.in-Bytes.is, wrapped-some c.args.q (sym c.wraps.ensures ∙ c.if-not-wraps.false))
 
 pub returns-in-Granted : goal.returns-in-Granted
 unfolding walked
@@ -32,7 +30,7 @@ returns-in-Granted c =
     rw (
       c.in-Bytes.is,
       lt-ltb _ _ c.if-new_len-q.false,
-      flag_yes _ _ c.wraps.ensures (not_from_true _ c.if-not-wraps.false),
+      sym c.wraps.ensures ∙ c.if-not-wraps.false,
       sym c.check_old_ring.ensures ∙ c.in-Granted.is,
     )
 
@@ -42,6 +40,6 @@ returns-in-Refused c =
     rw (
       c.in-Bytes.is,
       lt-ltb _ _ c.if-new_len-q.false,
-      flag_yes _ _ c.wraps.ensures (not_from_true _ c.if-not-wraps.false),
+      sym c.wraps.ensures ∙ c.if-not-wraps.false,
       sym c.check_old_ring.ensures ∙ c.in-Refused.is,
     )

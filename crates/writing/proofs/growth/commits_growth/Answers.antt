@@ -1,11 +1,9 @@
 -- `writing::growth::commits_growth` meets its contract: its tests are the definition's, in its order. Assumes nothing.
-use Rattle.std.proofs.lemmas.Bool.{not_from_true, not_from_false}
 use mathlib.Core.Path.{◌≡◌, refl, sym, ap, ◌∙◌}
 use mathlib.Core.Bool.{Bool}
 use Prim.Native.Nat.{ℕ}
 use lib.Dec.{ltb}
 use borrow.Author.Tests.{lt-ltb, le-ltb}
-use Rattle.refusal.proofs.Laws.{flag_no, flag_yes}
 use Rattle.queue.proofs.Tests.{both, fails}
 use Rattle.writing.specs.Growth.{commits_growth}
 use Rattle.writing.proofs.growth.commits_growth.Goals as goal
@@ -21,16 +19,16 @@ returns-then-remaining_bytes-data_len c = fails _ _ (asked _ _ _ c.requires.rema
 pub returns-then-not-wraps : goal.returns-then-not-wraps
 unfolding commits_growth
 returns-then-not-wraps c =
-    both _ _ (asked _ _ _ c.requires.remaining_bytes_value (lt-ltb _ _ c.if-remaining_bytes-data_len.false)) (fails _ _ (flag_no _ _ c.wraps.ensures (not_from_false _ c.if-not-wraps.true)))
+    both _ _ (asked _ _ _ c.requires.remaining_bytes_value (lt-ltb _ _ c.if-remaining_bytes-data_len.false)) (fails _ _ (sym c.wraps.ensures ∙ c.if-not-wraps.true))
 
 pub returns-then-last-first : goal.returns-then-last-first
 unfolding commits_growth
 returns-then-last-first c =
     both _ _ (asked _ _ _ c.requires.remaining_bytes_value (lt-ltb _ _ c.if-remaining_bytes-data_len.false))
-    (both _ _ (flag_yes _ _ c.wraps.ensures (not_from_true _ c.if-not-wraps.false)) (fails _ _ (le-ltb _ _ c.if-last-first.true)))
+    (both _ _ (sym c.wraps.ensures ∙ c.if-not-wraps.false) (fails _ _ (le-ltb _ _ c.if-last-first.true)))
 
 pub returns : goal.returns
 unfolding commits_growth
 returns c =
     both _ _ (asked _ _ _ c.requires.remaining_bytes_value (lt-ltb _ _ c.if-remaining_bytes-data_len.false))
-    (both _ _ (flag_yes _ _ c.wraps.ensures (not_from_true _ c.if-not-wraps.false)) (both _ _ (lt-ltb _ _ c.if-last-first.false) refl))
+    (both _ _ (sym c.wraps.ensures ∙ c.if-not-wraps.false) (both _ _ (lt-ltb _ _ c.if-last-first.false) refl))

@@ -1,9 +1,8 @@
 -- `queue::state::QueueFile::has_sound_ends` meets its contract: its tests are those of the definition. Assumes nothing.
-use Rattle.std.proofs.lemmas.Bool.{not_from_true}
+use mathlib.Core.Path.{sym, ◌∙◌}
 use native.Mathlib.Omega.{arith}
 use Prim.Native.Nat.{◌-◌, ◌<◌}
 use borrow.Author.Tests.{lt-ltb, leb-true}
-use Rattle.refusal.proofs.Laws.{flag_yes}
 use Rattle.queue.specs.State.{sound_ends}
 use Rattle.queue.proofs.Tests.{both, joined}
 use Rattle.queue.proofs.Sound.{lengths_known}
@@ -37,7 +36,7 @@ ends_used-requires c =
         inside = omega (arith, l.real, l.inside);
         small = omega (arith, l.real, l.small);
         place = last;
-        span = leb-true _ _ (flag_yes _ _ c.span_within-2.ensures (not_from_true _ c.if-not-span_within-2.false));
+        span = leb-true _ _ (sym c.span_within-2.ensures ∙ c.if-not-span_within-2.false);
       };
       pos_bound = c.if-first-capacity.false;
     }
@@ -47,6 +46,6 @@ unfolding sound_ends
 returns c =
     both _ _ (lt-ltb _ _ c.if-first-capacity.false)
     (both _ _ (lt-ltb _ _ c.if-last-capacity.false)
-    (both _ _ (flag_yes _ _ c.span_within.ensures (not_from_true _ c.if-not-span_within.false))
-    (both _ _ (flag_yes _ _ c.span_within-2.ensures (not_from_true _ c.if-not-span_within-2.false))
+    (both _ _ (sym c.span_within.ensures ∙ c.if-not-span_within.false)
+    (both _ _ (sym c.span_within-2.ensures ∙ c.if-not-span_within-2.false)
     (rw c.ends_used.ensures))))

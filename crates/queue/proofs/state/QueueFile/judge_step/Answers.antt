@@ -1,11 +1,10 @@
 -- `queue::state::QueueFile::judge_step` meets its contract: its tests are those of the definition, and an element whose header is valid
 -- lies in the ring. Assumes nothing.
-use Rattle.std.proofs.lemmas.Bool.{not_from_true}
 use native.Mathlib.Omega.{arith}
 use mathlib.Core.Path.{◌≡◌, refl, sym, ◌∙◌}
 use lib.ListN.{length}
 use borrow.Author.Tests.{le-leb, lt-leb, lt-ltb}
-use Rattle.refusal.proofs.Laws.{decide, met, unmet, flag_yes}
+use Rattle.refusal.proofs.Laws.{decide, met, unmet}
 use Rattle.refusal.specs.Demand.{demand}
 use Rattle.queue.specs.Answers.{on_verdict}
 use Rattle.queue.specs.Element.{Lies}
@@ -23,7 +22,7 @@ lies : (c : After-here-elem) →
 lies c =
     rw c.here-elem.ensures
     (header_lies _ _ _ _
-    (flag_yes _ _ c.is_sound.ensures (not_from_true _ c.if-not-is_sound.false))
+    (sym c.is_sound.ensures ∙ c.if-not-is_sound.false)
     c.if-cursor-self-2.false
     (sym c.header_at-parsed.ensures ∙ c.in-Header.is))
 
@@ -35,7 +34,7 @@ footer_decides : (c : After-validate_footer) →
 unfolding judge_step demand
 footer_decides c =
     rw (
-      flag_yes _ _ c.is_sound.ensures (not_from_true _ c.if-not-is_sound.false),
+      sym c.is_sound.ensures ∙ c.if-not-is_sound.false,
       lt-leb _ _ c.if-cursor-self.false,
       lt-ltb _ _ c.if-cursor-self-2.false,
       sym c.header_at-parsed.ensures ∙ c.in-Header.is,
@@ -54,7 +53,7 @@ returns-then-cursor-self c = rw (le-leb _ _ c.if-cursor-self.true) (search decid
 
 pub overflow_sub-self : goal.overflow_sub-self
 overflow_sub-self c =
-    (sound_lengths_lem _ _ (flag_yes _ _ c.is_sound.ensures (not_from_true _ c.if-not-is_sound.false))).start
+    (sound_lengths_lem _ _ (sym c.is_sound.ensures ∙ c.if-not-is_sound.false)).start
 
 pub returns-then-cursor-self-2 : goal.returns-then-cursor-self-2
 unfolding judge_step
@@ -62,13 +61,13 @@ returns-then-cursor-self-2 c = rw (lt-leb _ _ c.if-cursor-self.false) (search de
 
 pub header_at-parsed-requires : goal.header_at-parsed-requires
 header_at-parsed-requires c =
-    let l = sound_lengths_lem _ _ (flag_yes _ _ c.is_sound.ensures (not_from_true _ c.if-not-is_sound.false)) in
+    let l = sound_lengths_lem _ _ (sym c.is_sound.ensures ∙ c.if-not-is_sound.false) in
     (omega (arith, c.if-cursor-self-2.false), omega (arith, l.real, l.inside))
 
 pub returns-in_default : goal.returns-in_default
 unfolding judge_step
 returns-in_default c =
-    met _ _ _ (flag_yes _ _ c.is_sound.ensures (not_from_true _ c.if-not-is_sound.false))
+    met _ _ _ (sym c.is_sound.ensures ∙ c.if-not-is_sound.false)
     (rw (lt-leb _ _ c.if-cursor-self.false)
     (met _ _ _ (lt-ltb _ _ c.if-cursor-self-2.false)
     (rw (sym c.header_at-parsed.ensures ∙ c.in_default.is, c.refusal.ensures, c.in_default.is))))
@@ -76,7 +75,7 @@ returns-in_default c =
 pub returns-then-header-room : goal.returns-then-header-room
 unfolding judge_step
 returns-then-header-room c =
-    met _ _ _ (flag_yes _ _ c.is_sound.ensures (not_from_true _ c.if-not-is_sound.false))
+    met _ _ _ (sym c.is_sound.ensures ∙ c.if-not-is_sound.false)
     (rw (lt-leb _ _ c.if-cursor-self.false)
     (met _ _ _ (lt-ltb _ _ c.if-cursor-self-2.false)
     (rw (sym c.header_at-parsed.ensures ∙ c.in-Header.is)

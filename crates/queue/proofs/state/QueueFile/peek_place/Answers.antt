@@ -1,12 +1,11 @@
 -- `queue::state::QueueFile::peek_place` meets its contract: its tests are those of the definition, and the first element of a queue that
 -- has one lies in the ring. Assumes nothing.
-use Rattle.std.proofs.lemmas.Bool.{not_from_true}
 use Prim.Native.Nat.{◌+◌, ◌-◌, ◌%◌, ◌<◌}
 use native.Mathlib.Nat.{mod-lt}
 use native.Mathlib.Omega.{arith}
-use mathlib.Core.Path.{◌≡◌, refl, sym}
+use mathlib.Core.Path.{◌≡◌, refl, sym, ◌∙◌}
 use borrow.Author.Tests.{eq-eqb, ne_eqb, lt-leb, le-leb}
-use Rattle.refusal.proofs.Laws.{decide, met, unmet, flag_yes}
+use Rattle.refusal.proofs.Laws.{decide, met, unmet}
 use Rattle.refusal.specs.Demand.{demand}
 use Rattle.queue.specs.Answers.{on_verdict}
 use Rattle.queue.specs.Peek.{judge_peek_place}
@@ -26,7 +25,7 @@ footer_decides c =
     let fits = rw c.add-start.ensures at c.if-start-first.false in
     rw (
       c.add-start.ensures,
-      flag_yes _ _ c.is_sound.ensures (not_from_true _ c.if-not-is_sound.false),
+      sym c.is_sound.ensures ∙ c.if-not-is_sound.false,
       ne_eqb _ _ c.if-self-eq0.false,
       le-leb _ _ fits,
       sym c.validate_footer.ensures,
@@ -42,32 +41,32 @@ returns-then-self-eq0 c = rw (eq-eqb _ _ c.if-self-eq0.true) (search decide)
 
 pub add-start-requires : goal.add-start-requires
 add-start-requires c =
-    let l = first_lies _ _ (flag_yes _ _ c.is_sound.ensures (not_from_true _ c.if-not-is_sound.false)) c.if-self-eq0.false in
+    let l = first_lies _ _ (sym c.is_sound.ensures ∙ c.if-not-is_sound.false) c.if-self-eq0.false in
     (l.some, l.inside, omega (arith, l.place, l.small))
 
 pub overflow_add-start : goal.overflow_add-start
 overflow_add-start c =
     let q = c.args.self in
-    let l = first_lies _ _ (flag_yes _ _ c.is_sound.ensures (not_from_true _ c.if-not-is_sound.false)) c.if-self-eq0.false in
+    let l = first_lies _ _ (sym c.is_sound.ensures ∙ c.if-not-is_sound.false) c.if-self-eq0.false in
     let b : (q.first.pos + 28) % (q.file_len - 8192) < q.file_len - 8192 = mod-lt (q.first.pos + 28) (omega (arith, l.some)) in
     rw c.add-start.ensures (omega (arith, b, l.small, l.span))
 
 pub overflow_sub-self : goal.overflow_sub-self
 overflow_sub-self c =
-    let l = first_lies _ _ (flag_yes _ _ c.is_sound.ensures (not_from_true _ c.if-not-is_sound.false)) c.if-self-eq0.false in
+    let l = first_lies _ _ (sym c.is_sound.ensures ∙ c.if-not-is_sound.false) c.if-self-eq0.false in
     omega (arith, l.some)
 
 pub returns-then-start-first : goal.returns-then-start-first
 unfolding judge_peek_place
 returns-then-start-first c =
     let crosses = rw c.add-start.ensures at c.if-start-first.true in
-    met _ _ _ (flag_yes _ _ c.is_sound.ensures (not_from_true _ c.if-not-is_sound.false))
+    met _ _ _ (sym c.is_sound.ensures ∙ c.if-not-is_sound.false)
     (rw (ne_eqb _ _ c.if-self-eq0.false)
     (unmet _ _ _ (lt-leb _ _ crosses) refl))
 
 pub validate_footer-requires : goal.validate_footer-requires
 validate_footer-requires c =
-    first_lies _ _ (flag_yes _ _ c.is_sound.ensures (not_from_true _ c.if-not-is_sound.false)) c.if-self-eq0.false
+    first_lies _ _ (sym c.is_sound.ensures ∙ c.if-not-is_sound.false) c.if-self-eq0.false
 
 pub returns-in-Refused : goal.returns-in-Refused
 returns-in-Refused c =

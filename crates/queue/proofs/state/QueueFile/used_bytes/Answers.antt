@@ -1,8 +1,7 @@
 -- `queue::state::QueueFile::used_bytes` meets its contract: where the state is sound, by `used`. Assumes nothing.
-use Rattle.std.proofs.lemmas.Bool.{not_from_true}
-use mathlib.Core.Path.{ap}
+use mathlib.Core.Path.{ap, sym, ◌∙◌}
 use Rattle.queue.specs.declared.state.Count.TheVariants as Count
-use Rattle.refusal.proofs.Laws.{decide, met, flag_yes}
+use Rattle.refusal.proofs.Laws.{decide, met}
 use Rattle.queue.proofs.state.QueueFile.used_bytes.Goals as goal
 
 pub returns-then-not-is_sound : goal.returns-then-not-is_sound
@@ -10,4 +9,4 @@ returns-then-not-is_sound c = search decide
 
 pub returns : goal.returns
 returns c =
-    met _ _ _ (flag_yes _ _ c.is_sound.ensures (not_from_true _ c.if-not-is_sound.false)) (ap Count.Bytes c.used.ensures.0)
+    met _ _ _ (sym c.is_sound.ensures ∙ c.if-not-is_sound.false) (ap Count.Bytes c.used.ensures.0)
