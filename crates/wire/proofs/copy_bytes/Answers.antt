@@ -1,5 +1,5 @@
--- `wire::copy_bytes` meets its contract. The loop's invariant: storing the rest of src from here on is storing all of it
--- from the start. Where the loop ends, nothing is left of src, or nothing of out. Assumes nothing.
+-- `wire::copy_bytes` meets its contract, by the invariant that Invariants.antt tells. Where the loop ends, nothing is
+-- left of src, or nothing of out. Assumes nothing.
 use mathlib.Core.Path.{sym, ◌∙◌}
 use lib.ListN.{length}
 use Rattle.wire.proofs.Stores.{put_at_ended}

@@ -1,5 +1,5 @@
--- `wire::copy_bytes` meets its contract. The loop's invariant: storing the rest of src from here on is storing all of it
--- from the start. Where the loop ends, nothing is left of src, or nothing of out. Assumes nothing.
+-- `wire::copy_bytes` meets its contract. The loop's invariant: storing the rest of src from here on is storing all of
+-- it from the start. Assumes nothing.
 use mathlib.Core.Path.{◌≡◌}
 use Prim.Native.Nat.{◌≤◌, ◌-◌}
 use lib.ListN.{length, drop}

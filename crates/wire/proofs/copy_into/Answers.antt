@@ -1,5 +1,4 @@
--- `wire::copy_into` meets its contract. The loop's invariant: storing the rest of src from here on is storing all of it
--- from the start. Assumes nothing.
+-- `wire::copy_into` meets its contract, by the invariant that Invariants.antt tells. Assumes nothing.
 use mathlib.Core.Path.{◌∙◌}
 use Prim.Native.Nat.{◌+◌}
 use native.Mathlib.Omega.{arith}

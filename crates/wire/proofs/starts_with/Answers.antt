@@ -1,5 +1,4 @@
--- `wire::starts_with` meets its contract. The invariant: the rests agree as the wholes do.
--- Assumes nothing.
+-- `wire::starts_with` meets its contract, by the invariant that Invariants.antt tells. Assumes nothing.
 use borrow.Author.Rules.{rules}
 use borrow.Author.Tests.{eq-eqb, ne_eqb}
 use mathlib.Core.Path.{◌≡◌, ◌∙◌, sym}

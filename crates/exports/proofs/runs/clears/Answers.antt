@@ -1,5 +1,4 @@
--- `exports::runs::clears` meets its contract. The loop's invariant: the whole run is what is left of it, in an image that is as long as
--- it was. Assumes nothing.
+-- `exports::runs::clears` meets its contract, by the invariant that Invariants.antt tells. Assumes nothing.
 use borrow.Author.Rules.{rules}
 use Rattle.exports.proofs.RunLaws.{run_turn, run_over}
 use Rattle.exports.proofs.runs.clears.Goals as goal

@@ -1,5 +1,4 @@
--- `exports::runs::peeks` meets its contract. The loop's invariant: the whole run is what is left of it, with an output that is as long
--- as it was. Assumes nothing.
+-- `exports::runs::peeks` meets its contract, by the invariant that Invariants.antt tells. Assumes nothing.
 use borrow.Author.Rules.{rules}
 use Rattle.exports.proofs.RunLaws.{peeks_turn, peeks_end, peeks_over}
 use Rattle.exports.proofs.runs.peeks.Goals as goal

@@ -1,5 +1,4 @@
--- `exports::runs::steps` meets its contract. The loop's invariant: the whole run is what is left of it, with an output that is as long
--- as it was. Assumes nothing.
+-- `exports::runs::steps` meets its contract, by the invariant that Invariants.antt tells. Assumes nothing.
 use borrow.Author.Rules.{rules}
 use Rattle.exports.proofs.RunLaws.{steps_turn, steps_end, steps_over}
 use Rattle.exports.proofs.runs.steps.Goals as goal

@@ -1,4 +1,4 @@
--- `queue::recover::recover_v2_head` meets its contract. The loop's invariant: the whole walk is what is left of it. Assumes nothing.
+-- `queue::recover::recover_v2_head` meets its contract, by the invariant that Invariants.antt tells. Assumes nothing.
 use mathlib.Core.Path.{◌≡◌, ap, sym, ◌∙◌}
 use Prim.Native.Nat.{◌-◌}
 use native.Mathlib.Omega.{arith}

@@ -1,5 +1,4 @@
--- `ring::read::read_ring` meets its contract. The loop's invariant: what is left to read, from the ring's start on, stored behind what is
--- read, makes of buf what it makes where the loop begins. Assumes nothing.
+-- `ring::read::read_ring` meets its contract, by the invariant that Invariants.antt tells. Assumes nothing.
 use mathlib.Core.Path.{◌≡◌, ◌∙◌}
 use mathlib.Core.List.{List}
 use Prim.Native.Nat.{ℕ, ◌-◌, ◌≤◌}

@@ -1,5 +1,4 @@
--- `ring::relocation::relocate_bytes` meets its contract. The loop's invariant: what is left to copy makes of the image what the whole
--- copy makes of the image that came in. Assumes nothing.
+-- `ring::relocation::relocate_bytes` meets its contract, by the invariant that Invariants.antt tells. Assumes nothing.
 use mathlib.Core.Path.{◌≡◌, sym, ◌∙◌}
 use mathlib.Core.List.{List}
 use Prim.Native.Nat.{ℕ, ◌+◌, ◌-◌, ◌≤◌, ◌<◌}

@@ -1,5 +1,4 @@
--- `ring::write::write_ring` meets its contract. The loop's invariant: what is left to write, from the ring's start on, makes of the image
--- what it makes where the loop begins. Assumes nothing.
+-- `ring::write::write_ring` meets its contract, by the invariant that Invariants.antt tells. Assumes nothing.
 use mathlib.Core.Path.{◌≡◌, sym, ◌∙◌}
 use mathlib.Core.List.{List}
 use Prim.Native.Nat.{ℕ, ◌≤◌}

@@ -1,6 +1,4 @@
--- `script::decimal::parse_number` meets its contract. The invariant: the digits so far make n, and what n and the rest spell is what the
--- word spells.
--- Assumes nothing.
+-- `script::decimal::parse_number` meets its contract, by the invariant that Invariants.antt tells. Assumes nothing.
 use borrow.Author.Rules.{rules}
 use native.Mathlib.Omega.{arith}
 use native.Mathlib.Numerals.{add-one}

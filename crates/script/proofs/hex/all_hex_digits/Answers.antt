@@ -1,5 +1,4 @@
--- `script::hex::all_hex_digits` meets its contract. The invariant: the rest is all digits where the whole is.
--- Assumes nothing.
+-- `script::hex::all_hex_digits` meets its contract, by the invariant that Invariants.antt tells. Assumes nothing.
 use native.Mathlib.Omega.{arith}
 use native.Mathlib.Numerals.{add-one}
 use mathlib.Core.Path.{sym, ◌∙◌}

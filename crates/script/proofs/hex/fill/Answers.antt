@@ -1,5 +1,4 @@
--- `script::hex::fill` meets its contract. The invariant: the first i bytes are those that the digits spell.
--- Assumes nothing.
+-- `script::hex::fill` meets its contract, by the invariant that Invariants.antt tells. Assumes nothing.
 use borrow.Author.Rules.{rules}
 use native.Mathlib.Omega.{arith}
 use native.Mathlib.Numerals.{add-one}

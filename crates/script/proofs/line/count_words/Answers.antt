@@ -1,6 +1,4 @@
--- `script::line::count_words` meets its contract. The invariant: what is counted so far and the words of the rest make the line's words,
--- with the word that goes on across this place counted twice.
--- Assumes nothing.
+-- `script::line::count_words` meets its contract, by the invariant that Invariants.antt tells. Assumes nothing.
 use native.Mathlib.Omega.{arith}
 use native.Mathlib.Numerals.{add-one}
 use mathlib.Core.Path.{◌≡◌}

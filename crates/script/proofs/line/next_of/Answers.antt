@@ -1,5 +1,4 @@
--- `script::line::next_of` meets its contract. The invariant: the search from here on finds what the search from the start finds.
--- Assumes nothing.
+-- `script::line::next_of` meets its contract, by the invariant that Invariants.antt tells. Assumes nothing.
 use borrow.Author.Rules.{rules}
 use native.Mathlib.Numerals.{add-one}
 use mathlib.Core.Path.{sym, ◌∙◌}

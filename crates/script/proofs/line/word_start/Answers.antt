@@ -1,5 +1,4 @@
--- `script::line::word_start` meets its contract. The invariant: the word that is `left` words on from here is the i-th of the line.
--- Assumes nothing.
+-- `script::line::word_start` meets its contract, by the invariant that Invariants.antt tells. Assumes nothing.
 use borrow.Author.Rules.{rules}
 use native.Mathlib.Omega.{arith}
 use native.Mathlib.Numerals.{add-one}

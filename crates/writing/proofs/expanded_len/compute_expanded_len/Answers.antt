@@ -1,5 +1,4 @@
--- `writing::expanded_len::compute_expanded_len` meets its contract. The loop's invariant: the whole search is what is left of it, with
--- the length after so many doublings and what is missing then. Assumes nothing.
+-- `writing::expanded_len::compute_expanded_len` meets its contract, by the invariant that Invariants.antt tells. Assumes nothing.
 use mathlib.Core.Path.{◌≡◌, refl, sym, ap, ◌∙◌}
 use Prim.Native.Nat.{ℕ, ◌+◌, ◌-◌, ◌*◌}
 use native.Mathlib.Omega.{arith}

@@ -1,5 +1,4 @@
--- `writing::expansion::relink` meets its contract. The loop's invariant: the whole walk is what is left of it, in an image that is as
--- long as it was. Assumes nothing.
+-- `writing::expansion::relink` meets its contract, by the invariant that Invariants.antt tells. Assumes nothing.
 use mathlib.Core.Path.{◌≡◌, ◌∙◌}
 use Prim.Native.Nat.{◌-◌}
 use native.Mathlib.Nat.{mod-lt}

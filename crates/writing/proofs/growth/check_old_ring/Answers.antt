@@ -1,4 +1,4 @@
--- `writing::growth::check_old_ring` meets its contract. The loop's invariant: the whole walk is what is left of it. Assumes nothing.
+-- `writing::growth::check_old_ring` meets its contract, by the invariant that Invariants.antt tells. Assumes nothing.
 use mathlib.Core.Path.{◌≡◌, sym, ◌∙◌}
 use Prim.Native.Nat.{◌-◌}
 use native.Mathlib.Nat.{sub-zero, mod-lt}

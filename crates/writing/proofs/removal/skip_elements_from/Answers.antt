@@ -1,5 +1,4 @@
--- `writing::removal::skip_elements_from` meets its contract. The loop's invariant: the whole walk is what is left of it, from an element
--- that lies in the ring. Assumes nothing.
+-- `writing::removal::skip_elements_from` meets its contract, by the invariant that Invariants.antt tells. Assumes nothing.
 use mathlib.Core.Path.{sym, ◌∙◌}
 use native.Mathlib.Nat.{mod-lt}
 use native.Mathlib.Omega.{arith}
