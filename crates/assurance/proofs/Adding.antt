@@ -20,7 +20,7 @@ use Rattle.writing.specs.Growth.{check_growth}
 use Rattle.writing.specs.Expansion.{grown, Expands}
 use Rattle.writing.specs.Adding.{appended, judge_add, add_of}
 use Rattle.writing.proofs.LengthLaws.{length_room}
-use Rattle.writing.proofs.PlanLaws.{checked_planned, length_planned, length_expands, Adds, add_planned}
+use Rattle.writing.proofs.PlanLaws.{length_planned, length_expands, Adds, add_planned}
 use Rattle.assurance.specs.Held.{Held, elements_of}
 use Rattle.assurance.specs.Linked.{Linked, Empty, LinkedOrEmpty}
 use Rattle.assurance.specs.Growth.{grown_place, grown_elements}
@@ -212,7 +212,7 @@ pub add_keeps_queue : AddKeepsQueue
 unfolding add_of
 add_keeps_queue img img' payload q q' w h =
     let c = judge_add q (length img) (length payload) in
-    let t = count_work img q' img' (check_growth q img c) (λ n. committed (appended payload (grown n (q, img)))) h in
+    let t = count_work img q' img' c (check_growth q img) (λ n. committed (appended payload (grown n (q, img)))) h in
     let n = t.bytes in
-    let a = add_planned q (length img) (length payload) n (checked_planned q img c n t.count) in
+    let a = add_planned q (length img) (length payload) n t.count in
     subst (Added img payload q n a) t.work (added img payload q n a w)

@@ -12,10 +12,8 @@ use lib.Dec.{eqb}
 use borrow.Author.Tests.{eq-eqb, ne_eqb}
 use Rattle.ring.specs.Ring.{ring_read, ring_write}
 use Rattle.ring.proofs.Writing.{length_write, write_mod, read_within}
-use Rattle.format.specs.Element.{element_span, encode_header, parse_header, footer_bytes, check_footer}
-use Rattle.format.specs.declared.element.EncodedHeader.{EncodedHeader}
-use Rattle.format.specs.declared.element.ParsedHeader.TheVariants.{Header}
-use Rattle.format.proofs.ElementLaws.{header_granted, header_parse_encode, length_encoded_header, length-footer_bytes, footer_check_encode}
+use Rattle.format.specs.Element.{element_span, stored_header, parse_header, footer_bytes, check_footer}
+use Rattle.format.proofs.ElementLaws.{header_stored, header_parse_encode, length_stored_header, length-footer_bytes, footer_check_encode}
 use Rattle.queue.specs.Element.{element, capacity}
 use Rattle.queue.specs.declared.state.QueueFile.{QueueFile}
 use Rattle.writing.specs.Work.{Work, with_format, with_elements}
@@ -27,13 +25,15 @@ use Rattle.assurance.proofs.Chain.{Elem, total, header_in, Holds, Chain, chain_f
 use Rattle.assurance.proofs.ChainLists.{total-append, chain_append, rising_snoc, backs_snoc, last_snoc, last_of_snoc}
 use Rattle.assurance.proofs.Laid.{Laid, laid_some, end-place}
 use Rattle.assurance.proofs.Vacant.{Vacant}
+use Rattle.std.specs.Prelude.{Result, Ok}
+use Rattle.refusal.specs.declared.Refusal.{Refusal}
 
 -- ---- the element that was written
 
 length-element : (seq link : ℕ) (payload : List ℕ) → length (element_bytes seq link payload) ≡ element_span (length payload)
 length-element seq link payload =
-    length-append (encode_header seq link (length payload)).bytes (payload ++ footer_bytes seq payload)
-    ∙ omega (arith, length_encoded_header seq link (length payload), length-append payload (footer_bytes seq payload))
+    length-append (stored_header seq link (length payload)) (payload ++ footer_bytes seq payload)
+    ∙ omega (arith, length_stored_header seq link (length payload), length-append payload (footer_bytes seq payload))
 
 module _ (img : List ℕ) (size w seq back : ℕ) (payload : List ℕ) (long : 8192 + size ≤ length img)
     (fits : element_span (length payload) ≤ size) (pos : 0 < seq) (low : seq < 2 ^ 64) (lowb : back < 2 ^ 64) (short : length payload < 2 ^ 31) where
@@ -41,29 +41,29 @@ module _ (img : List ℕ) (size w seq back : ℕ) (payload : List ℕ) (long : 8
   s = element_bytes seq back payload
 
   abbrev hb : List ℕ
-  hb = (encode_header seq back (length payload)).bytes
+  hb = stored_header seq back (length payload)
 
   abbrev fb : List ℕ
   fb = footer_bytes seq payload
 
   header_there :
       header_in size (ring_write 8192 size img w s) w
-      ≡ Header (record { payload_len = length payload; seq = seq; prev_pos = back })
+      ≡ Ok (record { payload_len = length payload; seq = seq; prev_pos = back })
   unfolding header_in
   header_there =
       ap (λ (x : ℕ). parse_header (ring_read 8192 size (ring_write 8192 size img w s) x 28) size) (sym (add-zero w))
       ∙ ap (λ (x : List ℕ). parse_header x size)
       (read_within 8192 size img w s 0 28 long
       (omega (arith, length-element seq back payload)) (omega (arith, length-element seq back payload))
-      ∙ take_at hb (payload ++ fb) 28 (length_encoded_header seq back (length payload))
-      ∙ ap (λ (x : EncodedHeader). x.bytes) (header_granted seq back (length payload) short))
+      ∙ take_at hb (payload ++ fb) 28 (length_stored_header seq back (length payload))
+      ∙ header_stored seq back (length payload) short)
       ∙ header_parse_encode seq back (length payload) size pos low lowb short fits
 
   payload_there : ring_read 8192 size (ring_write 8192 size img w s) (w + 28) (length payload) ≡ payload
   payload_there =
       read_within 8192 size img w s 28 (length payload) long
       (omega (arith, length-element seq back payload)) (omega (arith, length-element seq back payload))
-      ∙ ap (take (length payload)) (drop_at hb (payload ++ fb) 28 (length_encoded_header seq back (length payload)))
+      ∙ ap (take (length payload)) (drop_at hb (payload ++ fb) 28 (length_stored_header seq back (length payload)))
       ∙ take_at payload fb (length payload) refl
 
   footer_there : ring_read 8192 size (ring_write 8192 size img w s) (w + 28 + length payload) 16 ≡ fb
@@ -75,7 +75,7 @@ module _ (img : List ℕ) (size w seq back : ℕ) (payload : List ℕ) (long : 8
       ∙ ap (λ (x : List ℕ). take 16 (drop (28 + length payload) x)) (sym (append_assoc hb payload fb))
       ∙ ap (take 16)
       (drop_at (hb ++ payload) fb (28 + length payload)
-      (length-append hb payload ∙ ap (λ (n : ℕ). n + length payload) (length_encoded_header seq back (length payload))))
+      (length-append hb payload ∙ ap (λ (n : ℕ). n + length payload) (length_stored_header seq back (length payload))))
       ∙ take_all 16 fb (omega (arith, length-footer_bytes seq payload))
 
   written_holds : Holds (ring_write 8192 size img w s) size w (record { seq = seq; back = back; payload = payload })

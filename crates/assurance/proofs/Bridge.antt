@@ -1,5 +1,6 @@
 -- Linked, in the paper's words and unrolled: each gives the other, and the list that the paper's words read from the image is the list
 -- that is unrolled. Assumes nothing.
+use Rattle.refusal.proofs.Laws.{same_ok}
 use mathlib.Core.Path.{◌≡◌, refl, sym, ap, ◌∙◌}
 use mathlib.Core.List.{List, [], ◌∷◌}
 use Prim.Native.Nat.{ℕ, suc, ◌+◌, ◌-◌, ◌%◌, ◌<◌}
@@ -7,17 +8,17 @@ use native.Mathlib.Nat.{mod-eq_of_lt, mod-add-mod}
 use native.Mathlib.Omega.{arith}
 use lib.ListN.{length}
 use Rattle.format.specs.declared.element.V2ElementHeader.{V2ElementHeader}
-use Rattle.format.specs.declared.element.ParsedHeader.{ParsedHeader}
 use Rattle.queue.specs.Element.{capacity}
 use Rattle.queue.specs.Strict.{trail_from}
 use Rattle.queue.specs.declared.state.QueueFile.{QueueFile}
-use Rattle.queue.proofs.Headers.{same_header}
 use Rattle.queue.proofs.Sound.{sound_lengths_lem, sound_numbers_lem, sound-ends}
 use Rattle.assurance.specs.Held.{Held, held_step, held_from, elements_of}
 use Rattle.assurance.specs.Linked.{Linked}
 use Rattle.assurance.proofs.Chain.{Elem, header_of, span, Chain, last_of, last_from, header_in_lem, header_known, header_there, last-holds}
 use Rattle.assurance.proofs.Laid.{Laid, header-first, header-last, laid_sound}
 use Rattle.assurance.proofs.TrailWalk.{payload_there, Found, trail_found, chain_trail}
+use Rattle.std.specs.Prelude.{Result}
+use Rattle.refusal.specs.declared.Refusal.{Refusal}
 
 -- ---- from the words
 
@@ -49,10 +50,10 @@ module _ (img : List ℕ) (q : QueueFile) (w : Linked img q) where
   unrolled_laid =
       let f = found in
       let ends = sound-ends q (length img) w.sound some in
-      let a = same_header _ _ (sym w.first ∙ header_in_lem img q.file_len first ∙ f.holds.0.header) in
+      let a = same_ok _ _ (sym w.first ∙ header_in_lem img q.file_len first ∙ f.holds.0.header) in
       let t = last-holds f.es img size first f.e f.holds in
       let b =
-      same_header _ _
+      same_ok _ _
       (sym w.last ∙ header_there img q.file_len (last_from first f.e f.es) q.last.pos (last_of f.e f.es) (sym f.ends) t) in
       let positive : 0 < f.e.seq = (header_known img size first (header_of f.e) f.holds.0.header).positive in
       record {
@@ -114,7 +115,7 @@ unfolding held_from
 chain_held [] img file p c = refl
 chain_held (e ∷ es) img file p c =
     let size : ℕ = capacity file in
-    ap (λ (d : ParsedHeader). held_step img file (p % size) d (held_from img file (length es))) (header_there img file p (p % size) e refl c.0)
+    ap (λ (d : Result V2ElementHeader Refusal). held_step img file (p % size) d (held_from img file (length es))) (header_there img file p (p % size) e refl c.0)
     ∙ rw (payload_there img file p (p % size) e refl c.0, mod-add-mod p size (span e), chain_held es img file (p + span e) c.1)
 
 pub laid_elements : (img : List ℕ) (q : QueueFile) (e : Elem) (es : List Elem) → Laid img q e es

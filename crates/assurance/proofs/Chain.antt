@@ -7,18 +7,17 @@ use Prim.Native.Nat.{ℕ, suc, ◌+◌, ◌-◌, ◌%◌, ◌≤◌, ◌<◌}
 use native.Mathlib.Omega.{arith}
 use lib.ListN.{length}
 use borrow.Author.Tests.{leb-true, le-leb}
-use Rattle.refusal.specs.declared.Verdict.TheVariants as Verdict
-use Rattle.refusal.proofs.Laws.{met, granted}
+use Rattle.refusal.proofs.Laws.{refused, met, granted}
 use Rattle.wire.specs.Wire.{word, put_at}
 use Rattle.ring.specs.Ring.{ring_read, ring_write}
 use Rattle.ring.proofs.Reading.{read_mod, read_put-before, read_put-past}
 use Rattle.ring.proofs.Writing.{read_apart, read_ahead}
 use Rattle.format.specs.Element.{element_span, parse_header, check_footer}
 use Rattle.format.specs.declared.element.V2ElementHeader.{V2ElementHeader}
-use Rattle.format.specs.declared.element.ParsedHeader.{ParsedHeader}
-use Rattle.format.specs.declared.element.ParsedHeader.TheVariants.{Header}
-use Rattle.format.proofs.ElementLaws.{no_header, parsed, Parsed}
+use Rattle.format.proofs.ElementLaws.{parsed, Parsed}
 use Rattle.queue.specs.Element.{capacity, header_at}
+use Rattle.std.specs.Prelude.{Result, Ok}
+use Rattle.refusal.specs.declared.Refusal.{Refusal}
 
 -- ---- elements
 
@@ -60,7 +59,7 @@ Backs size p e (f ∷ es) = (f.back ≡ 8192 + p % size) × Backs size (p + span
 -- ---- their bytes, in a ring of `size` bytes
 
 -- what reading a header at the place p answers
-unfoldable pub header_in : ℕ → List ℕ → ℕ → ParsedHeader
+unfoldable pub header_in : ℕ → List ℕ → ℕ → Result V2ElementHeader Refusal
 header_in size img p = parse_header (ring_read 8192 size img p 28) size
 
 pub header_in_lem : (img : List ℕ) (file p : ℕ) → header_at img file p ≡ header_in (capacity file) img p
@@ -74,13 +73,13 @@ header_mod size img p = ap (λ (s : List ℕ). parse_header s size) (read_mod 81
 
 -- the element e stands at the place p
 pub record Holds (img : List ℕ) (size p : ℕ) (e : Elem) : Type 0 where
-  pub header : header_in size img p ≡ Header (header_of e)
+  pub header : header_in size img p ≡ Ok (header_of e)
   pub payload : ring_read 8192 size img (p + 28) (length e.payload) ≡ e.payload
-  pub footer : check_footer (ring_read 8192 size img (p + 28 + length e.payload) 16) e.seq e.payload ≡ Verdict.Granted
+  pub footer : check_footer (ring_read 8192 size img (p + 28 + length e.payload) 16) e.seq e.payload ≡ Ok tt
 
 -- its header is what is read there, at the reduced place r
 pub header_there : (img : List ℕ) (file p r : ℕ) (e : Elem) → r ≡ p % capacity file → Holds img (capacity file) p e
-    → header_at img file r ≡ Header (header_of e)
+    → header_at img file r ≡ Ok (header_of e)
 header_there img file p r e s h =
     header_in_lem img file r ∙ ap (header_in (capacity file) img) s ∙ header_mod (capacity file) img p ∙ h.header
 
@@ -90,19 +89,19 @@ Chain img size p [] = Unit {0}
 Chain img size p (e ∷ es) = Holds img size p e × Chain img size (p + span e) es
 
 -- what is known of a header that is read
-pub header_known : (img : List ℕ) (size p : ℕ) (h : V2ElementHeader) → header_in size img p ≡ Header h → Parsed (ring_read 8192 size img p 28) size h
+pub header_known : (img : List ℕ) (size p : ℕ) (h : V2ElementHeader) → header_in size img p ≡ Ok h → Parsed (ring_read 8192 size img p 28) size h
 unfolding header_in
 header_known img size p h e = parsed (ring_read 8192 size img p 28) size h e
 
 -- a header that is valid for a ring is valid for a larger one
-parse_wider : (s : List ℕ) (size size' : ℕ) (h : V2ElementHeader) → size ≤ size' → parse_header s size ≡ Header h → parse_header s size' ≡ Header h
+parse_wider : (s : List ℕ) (size size' : ℕ) (h : V2ElementHeader) → size ≤ size' → parse_header s size ≡ Ok h → parse_header s size' ≡ Ok h
 parse_wider s size size' h l e =
-    let g1 = granted _ _ _ _ no_header e in
-    let g2 = granted _ _ _ _ no_header g1.1 in
-    let g3 = granted _ _ _ _ no_header g2.1 in
-    let g4 = granted _ _ _ _ no_header g3.1 in
-    let g5 = granted _ _ _ _ no_header g4.1 in
-    let g6 = granted _ _ _ _ no_header g5.1 in
+    let g1 = granted _ _ _ _ refused e in
+    let g2 = granted _ _ _ _ refused g1.1 in
+    let g3 = granted _ _ _ _ refused g2.1 in
+    let g4 = granted _ _ _ _ refused g3.1 in
+    let g5 = granted _ _ _ _ refused g4.1 in
+    let g6 = granted _ _ _ _ refused g5.1 in
     sym
     (met _ _ _ g1.0
     (met _ _ _ g2.0

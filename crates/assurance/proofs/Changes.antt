@@ -10,18 +10,15 @@ use lib.ListN.{length, take, drop, replicate, drop_of_length-le}
 use lib.Seq.{drop-nil}
 use lib.Dec.{leb, eqb}
 use borrow.Author.Tests.{ltb-true, leb-true, eqb-true, eqb-false, leb-false}
-use Rattle.refusal.specs.declared.Verdict.TheVariants as Verdict
 use Rattle.refusal.proofs.Laws.{granted, refused}
 use Rattle.wire.specs.Wire.{put_at}
 use Rattle.queue.specs.Element.{capacity}
 use Rattle.queue.specs.declared.state.QueueFile.{QueueFile}
 use Rattle.writing.specs.Work.{Work, done, kept}
 use Rattle.writing.specs.Commit.{slot_stored, committed, judge_numbers, judge_commit, commit_of}
-use Rattle.writing.specs.Removal.{on_skipped, dropped, removed_zeroed, remove_to, remove_some, remove_of}
+use Rattle.writing.specs.Removal.{dropped, removed_zeroed, remove_to, remove_some, remove_of}
 use Rattle.writing.specs.Clearing.{cleared, clear_of}
 use Rattle.writing.specs.Fresh.{fresh_queue, fresh_of}
-use Rattle.writing.specs.declared.answer.Changed.TheVariants.{Queue}
-use Rattle.writing.specs.declared.removal.Skipped.{Skipped}
 use Rattle.writing.proofs.CommitLaws.{commit_sound, numbers_granted}
 use Rattle.assurance.specs.Held.{Held, elements_of}
 use Rattle.assurance.specs.Linked.{Linked, Empty, LinkedOrEmpty}
@@ -35,13 +32,17 @@ use Rattle.assurance.proofs.CommitLaid.{length-slot_stored, committed_state, com
 use Rattle.assurance.proofs.Clearing.{committed_vacant, cleared_vacant, fresh_vacant, stored_vacant}
 use Rattle.assurance.proofs.RemoveLaid.{Skip, skip_laid, zeroed_state, removed_laid}
 use Rattle.assurance.proofs.Leaving.{laid_leaves, vacant_leaves, held_same, held_drop, length_held}
+use Rattle.refusal.specs.Answer.{on_ok}
+use Rattle.std.specs.Prelude.{Result, Ok}
+use Rattle.queue.specs.declared.element.Element.{Element}
+use Rattle.refusal.specs.declared.Refusal.{Refusal}
 
 -- what a work leaves
 abbrev LeavesWork : Work → List Held → Type 0
 LeavesWork w es = Leaves w.1 w.0 es
 
 -- a call's commit is granted for a sound state whose generation has room
-commit_generation : (q : QueueFile) (len : ℕ) → judge_commit q len ≡ Verdict.Granted → q.format.generation + 1 < 2 ^ 63
+commit_generation : (q : QueueFile) (len : ℕ) → judge_commit q len ≡ Ok tt → q.format.generation + 1 < 2 ^ 63
 unfolding judge_commit
 commit_generation q len e = (numbers_granted q 1 0 (granted _ _ _ _ refused e).1).0
 
@@ -125,11 +126,11 @@ module _ (img img' : List ℕ) (q q' : QueueFile) (n : ℕ) (w : Linked img q) (
       (zeroed_state q.first.pos skip.to.pos (committed (dropped q n skip.to, img))
       ∙ committed_state (dropped q n skip.to, img))
 
-  some_leaves : remove_some q n img ≡ (Queue q', img') → Leaves img' q' (drop n (elements_of q img))
+  some_leaves : remove_some q n img ≡ (Ok q', img') → Leaves img' q' (drop n (elements_of q img))
   unfolding remove_some remove_to
   some_leaves h =
-      let t : remove_to q n img skip.to ≡ (Queue q', img') =
-      ap (λ (x : Skipped). on_skipped (kept img) x (remove_to q n img)) (sym skip.walked) ∙ h in
+      let t : remove_to q n img skip.to ≡ (Ok q', img') =
+      ap (λ (x : Result Element Refusal). on_ok (kept img) x (remove_to q n img)) (sym skip.walked) ∙ h in
       let a = verdict_work img q' img' (judge_numbers q 1 0) after t in
       subst (λ (x : Work). LeavesWork x (drop n (elements_of q img))) a.1
       (subst (λ (l : List Held). LeavesWork after l) (after_held ∙ sym rest_held)
@@ -154,19 +155,19 @@ module _ (img img' : List ℕ) (q q' : QueueFile) (n : ℕ) (w : LinkedOrEmpty i
   Left = Leaves img' q' (drop n (elements_of q img))
 
   -- nothing is done, and that is right
-  same_left : drop n (elements_of q img) ≡ elements_of q img → done (q, img) ≡ (Queue q', img') → Left
+  same_left : drop n (elements_of q img) ≡ elements_of q img → done (q, img) ≡ (Ok q', img') → Left
   same_left d h =
       subst (λ (x : Work). LeavesWork x (drop n (elements_of q img))) (done_work img q' img' (q, img) h) (record { whole = w; holds = sym d })
 
-  all_left : leb q.elem_cnt n ≡ true → clear_of q img ≡ (Queue q', img') → Left
+  all_left : leb q.elem_cnt n ≡ true → clear_of q img ≡ (Ok q', img') → Left
   all_left t h = rw (none_left img q n w (leb-true _ _ t)) (clear_empties img img' q q' h).1
 
   some_left : LinkedOrEmpty img q → eqb q.elem_cnt 0 ≡ false → leb q.elem_cnt n ≡ false
-      → remove_some q n img ≡ (Queue q', img') → Left
+      → remove_some q n img ≡ (Ok q', img') → Left
   some_left (inl k) z t h = some_leaves img img' q q' n k (omega (arith, leb-false q.elem_cnt n t)) h
   some_left (inr m) z t h = absurd (eqb-false _ _ z m.none)
 
-  removed_left : remove_of q n img ≡ (Queue q', img') → Left
+  removed_left : remove_of q n img ≡ (Ok q', img') → Left
   unfolding remove_of
   removed_left h =
       branch (eqb n 0) _ _ _

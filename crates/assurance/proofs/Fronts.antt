@@ -14,9 +14,9 @@ use Rattle.header.specs.Slot.{slot_offset, parse_slot}
 use Rattle.header.specs.declared.HeaderSlot.{HeaderSlot}
 use Rattle.header.specs.declared.HeaderSlot.TheVariants.{A, B}
 use Rattle.header.specs.declared.SlotData.{SlotData}
-use Rattle.header.specs.declared.ParsedSlot.TheVariants.{Slot}
 use Rattle.queue.specs.Opening.{tried_slot, open_state}
 use Rattle.queue.proofs.OpenLaws.{offset_low}
+use Rattle.std.specs.Prelude.{Ok}
 
 -- ---- the bytes of a slot
 
@@ -83,7 +83,7 @@ module _ (img img' : List ℕ) (f : Fronts img img') where
 
 -- a slot holds no later generation than g, if it is valid at all
 abbrev pub Upto : List ℕ → HeaderSlot → ℕ → Type 0
-Upto img which g = (d : SlotData) → parse_slot (slot_part img which) ≡ Slot d → d.generation ≤ g
+Upto img which g = (d : SlotData) → parse_slot (slot_part img which) ≡ Ok d → d.generation ≤ g
 
 pub upto_kept : (img img' : List ℕ) (which : HeaderSlot) (g : ℕ) → Fronts img img' → Upto img which g → Upto img' which g
 upto_kept img img' which g f u d e = u d (ap parse_slot (sym (slot_kept img img' f which)) ∙ e)

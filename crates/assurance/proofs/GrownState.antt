@@ -1,5 +1,6 @@
 -- The state after growth, told without an image, for every state that there is: which of its fields change, and that the image stays as
 -- long as it was. And what a planned length leaves room for. Assumes nothing.
+use Rattle.refusal.proofs.Laws.{refused, on_granted}
 use mathlib.Core.Path.{◌≡◌, refl, sym, ap, ◌∙◌}
 use mathlib.Core.Bool.{Bool, true, false, cond, ◌&&◌, and_assoc}
 use mathlib.Core.Logic.{◌⊎◌, inl, inr}
@@ -15,8 +16,6 @@ use Rattle.ring.proofs.Relocating.{length-relocated}
 use Rattle.queue.specs.Element.{element}
 use Rattle.queue.specs.State.{remaining_bytes, sound}
 use Rattle.queue.specs.declared.state.QueueFile.{QueueFile}
-use Rattle.queue.specs.declared.state.Count.TheVariants.{Bytes, Refused}
-use Rattle.queue.proofs.AnswerLaws.{on_granted}
 use Rattle.queue.proofs.Sound.{sound_lengths_lem}
 use Rattle.writing.specs.Work.{Work}
 use Rattle.writing.specs.Commit.{next_format, committed, judge_numbers}
@@ -25,11 +24,12 @@ use Rattle.writing.specs.Growth.{end_of_last, wrapped, commits_growth, growth_co
 use Rattle.writing.specs.Expansion.{lengthened, last_placed, start_zeroed, laid_straight, expanded, grown}
 use Rattle.writing.proofs.Choices.{either}
 use Rattle.writing.proofs.CommitLaws.{numbers_granted}
-use Rattle.writing.proofs.LengthLaws.{no_bytes_lem, length_doubles, length_same, length_grows}
+use Rattle.writing.proofs.LengthLaws.{length_doubles, length_same, length_grows}
 use Rattle.writing.proofs.PlanLaws.{length_planned}
 use Rattle.writing.proofs.RelinkLaws.{length_relink}
 use Rattle.assurance.specs.Growth.{moves, grown_place}
 use Rattle.assurance.proofs.CommitLaid.{length-committed}
+use Rattle.std.specs.Prelude.{Ok, Err}
 
 -- ---- the state
 
@@ -136,7 +136,7 @@ length-grown q img n =
 -- ---- a length that was planned
 
 module _ (q : QueueFile) (len span commits elements n : ℕ) (s : sound q len ≡ true)
-    (e : judge_length q len span commits elements ≡ Bytes n) where
+    (e : judge_length q len span commits elements ≡ Ok n) where
   -- it is at least the file's
   pub planned_file : q.file_len ≤ n
   planned_file = go (length_doubles q.file_len (remaining_bytes q) span n (length_planned q len span commits elements n e).0).1
@@ -149,7 +149,7 @@ module _ (q : QueueFile) (len span commits elements n : ℕ) (s : sound q len �
   planned_longer : ltb (remaining_bytes q) span ≡ ltb q.file_len n
   planned_longer = go (dec_le span (remaining_bytes q))
     where
-      g : grow_length q.file_len (remaining_bytes q) span ≡ Bytes n
+      g : grow_length q.file_len (remaining_bytes q) span ≡ Ok n
       g = (length_planned q len span commits elements n e).0
 
       go : Dec (span ≤ remaining_bytes q) → ltb (remaining_bytes q) span ≡ ltb q.file_len n
@@ -171,4 +171,4 @@ module _ (q : QueueFile) (len span commits elements n : ℕ) (s : sound q len �
   planned_numbers =
       rw (← planned_commits)
       (numbers_granted q (commits + growth_commits q span) elements
-      (on_granted Refused (judge_numbers q (commits + growth_commits q span) elements) _ (Bytes n) (λ r. no_bytes_lem) e).0)
+      (on_granted Err (judge_numbers q (commits + growth_commits q span) elements) _ (Ok n) (λ r. refused) e).0)

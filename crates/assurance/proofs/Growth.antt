@@ -1,21 +1,18 @@
 -- Growth keeps the queue: the theorem. Assumes nothing.
+use Rattle.refusal.proofs.Laws.{refused, granted}
 use mathlib.Core.Path.{◌≡◌, sym, ap, ◌∙◌, subst}
 use mathlib.Core.Bool.{true}
 use mathlib.Core.List.{List, ◌∷◌}
 use Prim.Native.Nat.{ℕ, ◌+◌, ◌^◌, ◌≤◌, ◌<◌}
 use lib.ListN.{length}
-use Rattle.refusal.proofs.Laws.{granted}
 use Rattle.queue.specs.State.{sound}
 use Rattle.queue.specs.Element.{capacity}
 use Rattle.queue.specs.declared.element.Element.{Element}
 use Rattle.queue.specs.declared.state.QueueFile.{QueueFile}
-use Rattle.queue.specs.declared.state.Count.TheVariants.{Bytes}
-use Rattle.queue.specs.declared.recover.Recovered.TheVariants.{Head}
 use Rattle.writing.specs.Work.{Work}
 use Rattle.writing.specs.Growth.{judge_length, check_growth}
 use Rattle.writing.specs.Expansion.{grown, judge_expansion, expand_of, Expands}
-use Rattle.writing.proofs.LengthLaws.{no_bytes_lem}
-use Rattle.writing.proofs.PlanLaws.{checked_planned, expansion_expands, expansion_sound}
+use Rattle.writing.proofs.PlanLaws.{expansion_expands, expansion_sound}
 use Rattle.assurance.specs.Held.{Held, elements_of, sequences_of, payloads_of}
 use Rattle.assurance.specs.Linked.{Linked}
 use Rattle.assurance.specs.Growth.{grown_elements, Grown, GrowthKeepsQueue, GrowthStaysLinked}
@@ -27,6 +24,7 @@ use Rattle.assurance.proofs.GrownState.{commits_at, grown-file, grown-first, pla
 use Rattle.assurance.proofs.Relinking.{grown_elem, grown_elems}
 use Rattle.assurance.proofs.GrownLaid.{grown_laid}
 use Rattle.assurance.proofs.GrownHeld.{held_sequences, held_payloads, grown_held}
+use Rattle.std.specs.Prelude.{Ok}
 
 -- the state and the image that growth leaves
 module _ (img : List ℕ) (q : QueueFile) (n : ℕ) (k : Linked img q) (least : q.file_len ≤ n)
@@ -61,20 +59,20 @@ module _ (img : List ℕ) (q : QueueFile) (n : ℕ) (k : Linked img q) (least : 
     sequences = ap sequences_of same_elements ∙ held_sequences q q₁.file_len (elements_of q img);
     payloads = ap payloads_of same_elements ∙ held_payloads q q₁.file_len (elements_of q img);
     trail = laid_trail img₁ q₁ (grown_elem q n u.e) (grown_elems q n u.es) laid;
-    recovered = laid_recovers img₁ q₁ (grown_elem q n u.e) (grown_elems q n u.es) laid ∙ ap Head (grown-first q img n);
+    recovered = laid_recovers img₁ q₁ (grown_elem q n u.e) (grown_elems q n u.es) laid ∙ ap Ok (grown-first q img n);
   }
 
-expansion_planned : (q : QueueFile) (len span n : ℕ) → judge_expansion q len span ≡ Bytes n → judge_length q len span 0 0 ≡ Bytes n
+expansion_planned : (q : QueueFile) (len span n : ℕ) → judge_expansion q len span ≡ Ok n → judge_length q len span 0 0 ≡ Ok n
 unfolding judge_expansion
-expansion_planned q len span n e = (granted (sound q len) _ (judge_length q len span 0 0) (Bytes n) no_bytes_lem e).1
+expansion_planned q len span n e = (granted (sound q len) _ (judge_length q len span 0 0) (Ok n) refused e).1
 
 pub growth_keeps_queue : GrowthKeepsQueue
 unfolding expand_of
 growth_keeps_queue img img' q q' span k e =
     let j = judge_expansion q (length img) span in
-    let c = count_work img q' img' (check_growth q img j) (λ n. grown n (q, img)) e in
+    let c = count_work img q' img' j (check_growth q img) (λ n. grown n (q, img)) e in
     let n = c.bytes in
-    let b = checked_planned q img j n c.count in
+    let b = c.count in
     let s = expansion_sound q (length img) span n b in
     let p = expansion_planned q (length img) span n b in
     let room : commits_at q n ≡ true → q.format.generation + 1 < 2 ^ 63 =

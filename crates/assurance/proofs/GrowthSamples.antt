@@ -10,7 +10,6 @@ use Rattle.wire.specs.Wire.{put_at}
 use Rattle.wire.proofs.Numbers.{bytes_at_part}
 use native.Mathlib.Omega.{arith}
 use Rattle.refusal.specs.Demand.{demand}
-use Rattle.refusal.specs.declared.Verdict.TheVariants as Verdict
 use Rattle.crc.specs.Crc.{shift, shifts, byte_in, bytes_in, crc_of}
 use Rattle.ring.specs.Ring.{ring_read, relocated}
 use Rattle.ring.proofs.Writing.{write_straight}
@@ -19,17 +18,16 @@ use Rattle.header.proofs.RoundTrip.{length-slot_bytes}
 use Rattle.format.specs.Element.{header_fields, header_bytes}
 use Rattle.queue.specs.Element.{element, header_at, payload_at, footer_verdict}
 use Rattle.queue.specs.State.{used_bytes, sound_lengths, sound_numbers, sound_ends, sound}
-use Rattle.queue.specs.declared.state.Count.TheVariants.{Bytes}
 use Rattle.queue.specs.Strict.{strict_element, trail_from}
 use Rattle.writing.specs.Commit.{slot_of, slot_stored, committed, judge_numbers}
 use Rattle.writing.specs.Length.{grow_length, least_from}
-use Rattle.writing.specs.Growth.{wrapped, commits_growth, judge_length, walk_from, walk_old_ring, walked, check_growth}
+use Rattle.writing.specs.Growth.{wrapped, commits_growth, judge_length, walk_from, walk_old_ring, check_growth}
 use Rattle.writing.specs.Expansion.{lengthened, relinked_header, relink_from, last_placed, start_zeroed, laid_straight, expanded, grown, judge_expansion, expand_of}
-use Rattle.writing.specs.declared.answer.Changed.TheVariants.{Queue}
 use Rattle.assurance.specs.Held.{held_from, elements_of}
 use Rattle.assurance.specs.Linked.{Stands, Linked}
 use Rattle.assurance.specs.Growth.{grown_elements}
 use Rattle.assurance.specs.GrowthSamples.{first, second, third, wrapping, wrapping_image, wrapping_elements, third', straight, straight_image, straight_elements}
+use Rattle.std.specs.Prelude.{Ok}
 
 -- ---- before
 
@@ -45,15 +43,15 @@ header_three : Stands wrapping_image 8332 (element 48 0 3) 8196
 unfolding header_at ring_read demand crc_of bytes_in byte_in shifts shift wrapping_image
 header_three = refl
 
-footer_one : footer_verdict wrapping_image 8332 (element 100 0 1) ≡ Verdict.Granted
+footer_one : footer_verdict wrapping_image 8332 (element 100 0 1) ≡ Ok tt
 unfolding footer_verdict payload_at ring_read demand crc_of bytes_in byte_in shifts shift wrapping_image
 footer_one = refl
 
-footer_two : footer_verdict wrapping_image 8332 (element 4 0 2) ≡ Verdict.Granted
+footer_two : footer_verdict wrapping_image 8332 (element 4 0 2) ≡ Ok tt
 unfolding footer_verdict payload_at ring_read demand crc_of bytes_in byte_in shifts shift wrapping_image
 footer_two = refl
 
-footer_three : footer_verdict wrapping_image 8332 (element 48 0 3) ≡ Verdict.Granted
+footer_three : footer_verdict wrapping_image 8332 (element 48 0 3) ≡ Ok tt
 unfolding footer_verdict payload_at ring_read demand crc_of bytes_in byte_in shifts shift wrapping_image
 footer_three = refl
 
@@ -65,7 +63,7 @@ is_sound : sound wrapping (length wrapping_image) ≡ true
 unfolding sound sound_lengths sound_numbers sound_ends
 is_sound = rw (length-image)
 
-hangs : trail_from wrapping_image 8332 48 3 100 1 0 0 ≡ Verdict.Granted
+hangs : trail_from wrapping_image 8332 48 3 100 1 0 0 ≡ Ok tt
 unfolding trail_from strict_element demand
 hangs = rw (header-one, footer_one, header-two, footer_two, header_three, footer_three)
 
@@ -165,13 +163,17 @@ grows : grown 16664 (wrapping, wrapping_image) ≡ (straight, straight_image)
 unfolding grown expanded laid_straight lengthened last_placed committed slot_stored start_zeroed wrapped
 grows = rw (is_copied, is_anew, is_slotted, is_zeroed)
 
-planned : check_growth wrapping wrapping_image (judge_expansion wrapping (length wrapping_image) 9) ≡ Bytes 16664
-unfolding judge_expansion judge_length judge_numbers grow_length least_from used_bytes commits_growth walked walk_old_ring walk_from wrapped demand
-planned = rw (is_sound, length-image, header-one, header-two, header_three)
+planned : judge_expansion wrapping (length wrapping_image) 9 ≡ Ok 16664
+unfolding judge_expansion judge_length judge_numbers grow_length least_from used_bytes commits_growth wrapped demand
+planned = rw (is_sound, length-image)
 
-pub wrapping_grows : expand_of wrapping 9 wrapping_image ≡ (Queue straight, straight_image)
+checked : check_growth wrapping wrapping_image 16664 ≡ Ok tt
+unfolding check_growth walk_old_ring walk_from wrapped demand
+checked = rw (header-one, header-two, header_three)
+
+pub wrapping_grows : expand_of wrapping 9 wrapping_image ≡ (Ok straight, straight_image)
 unfolding expand_of
-wrapping_grows = rw (planned, grows)
+wrapping_grows = rw (planned, checked, grows)
 
 -- ---- what it then holds
 

@@ -9,8 +9,6 @@ use lib.Dec.{ltb}
 use borrow.Author.Tests.{le-ltb}
 use Rattle.wire.specs.Wire.{bytes_at}
 use Rattle.format.specs.declared.element.V2ElementHeader.{V2ElementHeader}
-use Rattle.format.specs.declared.element.ParsedHeader.{ParsedHeader}
-use Rattle.format.specs.declared.element.ParsedHeader.TheVariants as Parsed
 use Rattle.queue.specs.Element.{capacity, header_at}
 use Rattle.queue.specs.declared.state.QueueFile.{QueueFile}
 use Rattle.writing.specs.Work.{Work, with_length}
@@ -24,6 +22,8 @@ use Rattle.writing.proofs.Choices.{left_out, either}
 use Rattle.assurance.specs.Reopening.{Current}
 use Rattle.assurance.proofs.Fronts.{Fronts, front_all, front-then, front-put, front_write, upto_kept}
 use Rattle.assurance.proofs.Slots.{stored-current}
+use Rattle.std.specs.Prelude.{Result, Ok, Err}
+use Rattle.refusal.specs.declared.Refusal.{Refusal}
 
 -- what the next commit needs
 abbrev pub UpToDate : Work → Type 0
@@ -43,10 +43,10 @@ unfolding relinked_header
 relinked-front file old end img p h =
     either (Fronts img) (names_moved end h.prev_pos) _ _ (λ _. front_write (capacity file) img p _) (front_all img)
 
-step_front : (file old end : ℕ) (img : List ℕ) (p : ℕ) (d : ParsedHeader) (rest : List ℕ → ℕ → List ℕ) →
+step_front : (file old end : ℕ) (img : List ℕ) (p : ℕ) (d : Result V2ElementHeader Refusal) (rest : List ℕ → ℕ → List ℕ) →
     ((i : List ℕ) (r : ℕ) → Fronts i (rest i r)) → Fronts img (relink_step file old end img p d rest)
-step_front file old end img p (Parsed.Refused r) rest k = front_all img
-step_front file old end img p (Parsed.Header h) rest k =
+step_front file old end img p (Err r) rest k = front_all img
+step_front file old end img p (Ok h) rest k =
     front-then img (relinked_header file old end img p h) _ (relinked-front file old end img p h) (k _ _)
 
 relink_front : (file old end n : ℕ) (img : List ℕ) (p : ℕ) → Fronts img (relink_from file old end n img p)

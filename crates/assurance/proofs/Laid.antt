@@ -13,7 +13,6 @@ use Rattle.ring.specs.Ring.{ring_distance}
 use Rattle.ring.proofs.Places.{turn_high}
 use Rattle.format.specs.Element.{element_span}
 use Rattle.format.specs.declared.state.V2Format.{V2Format}
-use Rattle.format.specs.declared.element.ParsedHeader.TheVariants.{Header}
 use Rattle.queue.specs.Element.{capacity, header_at}
 use Rattle.queue.specs.State.{ends_used, sound_ends, sound}
 use Rattle.queue.specs.declared.state.QueueFile.{QueueFile}
@@ -21,6 +20,7 @@ use Rattle.queue.proofs.Sound.{Lengths, Numbers, lengths_sound, numbers_sound}
 use Rattle.writing.specs.Work.{with_format}
 use Rattle.writing.specs.Growth.{end_of_last}
 use Rattle.assurance.proofs.Chain.{Elem, header_of, span, total, Chain, Rising, Backs, last_of, last_from, header_there, last_end, last-after, last-holds}
+use Rattle.std.specs.Prelude.{Ok}
 
 -- e and es are the elements that the state and the image hold
 pub record Laid (img : List ℕ) (q : QueueFile) (e : Elem) (es : List Elem) : Type 0 where
@@ -100,10 +100,10 @@ module _ (img : List ℕ) (q : QueueFile) (e : Elem) (es : List Elem) (k : Laid 
 
   -- ---- its ends' headers
 
-  pub header-first : header_at img q.file_len first ≡ Header (header_of e)
+  pub header-first : header_at img q.file_len first ≡ Ok (header_of e)
   header-first = header_there img q.file_len first first e (sym (mod-eq_of_lt {n = first} {m = size} k.first_low)) k.holds.0
 
-  pub header-last : header_at img q.file_len q.last.pos ≡ Header (header_of (last_of e es))
+  pub header-last : header_at img q.file_len q.last.pos ≡ Ok (header_of (last_of e es))
   header-last =
       header_there img q.file_len (last_from first e es) q.last.pos (last_of e es) k.last-place
       (last-holds es img size first e k.holds)

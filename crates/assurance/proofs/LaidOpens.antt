@@ -9,9 +9,6 @@ use lib.ListN.{length}
 use lib.Dec.{eqb}
 use borrow.Author.Tests.{le-leb, eq-eqb, ne_eqb, eqb-true}
 use Rattle.refusal.proofs.Laws.{pass}
-use Rattle.ring.specs.declared.place.Placed.TheVariants as Placed
-use Rattle.format.specs.declared.element.ParsedHeader.{ParsedHeader}
-use Rattle.format.specs.declared.element.ParsedHeader.TheVariants as Parsed
 use Rattle.queue.specs.Element.{element, is_empty_element, in_sequence, header_in_sequence}
 use Rattle.queue.specs.Places.{to_logical}
 use Rattle.queue.specs.State.{no_ends}
@@ -19,8 +16,6 @@ use Rattle.queue.specs.Recover.{recover_head}
 use Rattle.queue.specs.Opening.{with_ends, or_recovered, first_element, open_ends, opened_from, from_state, open_queue}
 use Rattle.queue.specs.declared.element.Element.{Element}
 use Rattle.queue.specs.declared.state.QueueFile.{QueueFile}
-use Rattle.queue.specs.declared.recover.Recovered.TheVariants as Recovered
-use Rattle.queue.specs.declared.opening.Opened.TheVariants.{Queue}
 use Rattle.queue.proofs.Sound.{sound_empty}
 use Rattle.writing.specs.Commit.{pointer_to, slot_of}
 use Rattle.writing.proofs.CommitLaws.{pointer-some}
@@ -28,11 +23,14 @@ use Rattle.assurance.specs.Linked.{Empty}
 use Rattle.assurance.specs.Reopening.{Stored, Reopens}
 use Rattle.assurance.proofs.Chain.{Elem, header_of, last_of, rising_last}
 use Rattle.assurance.proofs.Laid.{Laid, header-first, header-last, laid_some}
+use Rattle.std.specs.Prelude.{Result, Ok}
+use Rattle.refusal.specs.declared.Refusal.{Refusal}
+use Rattle.format.specs.declared.element.V2ElementHeader.{V2ElementHeader}
 
 -- ---- pointers
 
 -- a pointer names its element's place
-pointer_back : (n : ℕ) (e : Element) → (n ≡ 0 → ⊥) → to_logical (pointer_to n e) ≡ Placed.At e.pos
+pointer_back : (n : ℕ) (e : Element) → (n ≡ 0 → ⊥) → to_logical (pointer_to n e) ≡ Ok e.pos
 pointer_back n e m =
     let z : 8192 + e.pos - 8192 ≡ e.pos = omega arith in
     ap to_logical (pointer-some n e m) ∙ pass _ _ _ (le-leb 8192 (8192 + e.pos) (omega arith)) ∙ rw z
@@ -52,21 +50,21 @@ stored-from img q e = ap (from_state img q.real_len q.settings) e
 
 module _ (img : List ℕ) (q : QueueFile) (e : Elem) (es : List Elem) (k : Laid img q e es) where
   -- last has the sequence before the next one
-  last-sequence : header_in_sequence img q.file_len q.last.pos (q.format.next_seq - 1) ≡ Parsed.Header (header_of (last_of e es))
+  last-sequence : header_in_sequence img q.file_len q.last.pos (q.format.next_seq - 1) ≡ Ok (header_of (last_of e es))
   last-sequence =
       ap (in_sequence (q.format.next_seq - 1)) (header-last img q e es k)
       ∙ pass _ _ _ (eq-eqb (last_of e es).seq (q.format.next_seq - 1) (omega (arith, k.seqs, rising_last e es k.rising)))
 
   -- first's header is valid, so it is taken
-  first_taken : (last : Element) → first_element img q.file_len q.first.pos last q.elem_cnt ≡ Recovered.Head q.first
+  first_taken : (last : Element) → first_element img q.file_len q.first.pos last q.elem_cnt ≡ Ok q.first
   unfolding first_element
   first_taken last =
       ap
-      (λ (d : ParsedHeader). or_recovered d q.first.pos (recover_head img q.file_len last.pos last.seq q.elem_cnt))
+      (λ (d : Result V2ElementHeader Refusal). or_recovered d q.first.pos (recover_head img q.file_len last.pos last.seq q.elem_cnt))
       (header-first img q e es k)
       ∙ rw (← k.first_len, ← k.first-seq)
 
-  ends_open : open_ends img (bare q) (slot_of q) ≡ Queue q
+  ends_open : open_ends img (bare q) (slot_of q) ≡ Ok q
   unfolding open_ends
   ends_open =
       let some = laid_some img q e es k in
@@ -82,7 +80,7 @@ module _ (img : List ℕ) (q : QueueFile) (e : Elem) (es : List Elem) (k : Laid 
   pub laid_opens : Stored img q → Reopens img q
   laid_opens s =
       stored-from img q s
-      ∙ ap (λ (t : Bool). cond t (Queue (bare q)) (open_ends img (bare q) (slot_of q))) (ne_eqb q.elem_cnt 0 (laid_some img q e es k))
+      ∙ ap (λ (t : Bool). cond t (Ok (bare q)) (open_ends img (bare q) (slot_of q))) (ne_eqb q.elem_cnt 0 (laid_some img q e es k))
       ∙ ends_open
 
 -- ---- an empty queue
@@ -111,5 +109,5 @@ empty-bare img q m = no_ends_lem q (sound_empty q (length img) m.sound m.none)
 pub empty_opens : (img : List ℕ) (q : QueueFile) → Empty img q → Stored img q → Reopens img q
 empty_opens img q m s =
     stored-from img q s
-    ∙ ap (λ (t : Bool). cond t (Queue (bare q)) (open_ends img (bare q) (slot_of q))) (eq-eqb q.elem_cnt 0 m.none)
-    ∙ ap Queue (empty-bare img q m)
+    ∙ ap (λ (t : Bool). cond t (Ok (bare q)) (open_ends img (bare q) (slot_of q))) (eq-eqb q.elem_cnt 0 m.none)
+    ∙ ap Ok (empty-bare img q m)

@@ -12,22 +12,21 @@ use lib.Seq.{get_or-append_seam}
 use lib.Dec.{ltb}
 use borrow.Author.Tests.{lt-ltb, le-ltb}
 use Rattle.format.specs.declared.element.V2ElementHeader.{V2ElementHeader}
-use Rattle.format.specs.declared.element.ParsedHeader.TheVariants as Parsed
 use Rattle.queue.specs.Element.{capacity, header_at}
 use Rattle.queue.specs.Recover.{recover_head}
 use Rattle.queue.specs.declared.state.QueueFile.{QueueFile}
-use Rattle.queue.specs.declared.recover.Recovered.TheVariants.{Head}
 use Rattle.assurance.specs.Held.{elements_of, places_back}
 use Rattle.assurance.specs.Recovery.{Trail}
 use Rattle.assurance.proofs.Chain.{Elem, header_of, span, Chain, Rising, Backs, last_of, last_from, header_there, rising_last}
 use Rattle.assurance.proofs.Laid.{Laid}
 use Rattle.assurance.proofs.Recovery.{recovery_is_exact}
 use Rattle.assurance.proofs.Bridge.{held_all, laid_elements}
+use Rattle.std.specs.Prelude.{Ok}
 
 -- ---- a trail, and one place more behind its last
 
 module _ (img : List ℕ) (file : ℕ) (ps : List ℕ) (tail_seq p : ℕ) (h : V2ElementHeader) (t : Trail img file ps tail_seq) (m : ℕ)
-    (many : length ps ≡ suc m) (link : (t.header m).prev_pos ≡ 8192 + p) (valid : header_at img file p ≡ Parsed.Header h)
+    (many : length ps ≡ suc m) (link : (t.header m).prev_pos ≡ 8192 + p) (valid : header_at img file p ≡ Ok h)
     (falls : h.seq + suc m ≡ tail_seq) where
   abbrev headers : ℕ → V2ElementHeader
   headers i = cond (ltb i (length ps)) (t.header i) h
@@ -47,10 +46,10 @@ module _ (img : List ℕ) (file : ℕ) (ps : List ℕ) (tail_seq p : ℕ) (h : V
   longer : length (ps ++ (p ∷ [])) ≡ suc (length ps)
   longer = length-append ps (p ∷ []) ∙ omega arith
 
-  valid_all : (i : ℕ) → i < length (ps ++ (p ∷ [])) → header_at img file (get_or (ps ++ (p ∷ [])) i 0) ≡ Parsed.Header (headers i)
+  valid_all : (i : ℕ) → i < length (ps ++ (p ∷ [])) → header_at img file (get_or (ps ++ (p ∷ [])) i 0) ≡ Ok (headers i)
   valid_all i l = go (dec_lt i (length ps))
     where
-      go : Dec (i < length ps) → header_at img file (get_or (ps ++ (p ∷ [])) i 0) ≡ Parsed.Header (headers i)
+      go : Dec (i < length ps) → header_at img file (get_or (ps ++ (p ∷ [])) i 0) ≡ Ok (headers i)
       go (yes y) = rw (place-before i y, before i y) (t.valid i y)
       go (no x) = rw (place-behind i (omega (arith, x, l, longer)), behind i (omega (arith, x))) valid
 
@@ -133,7 +132,7 @@ module _ (img : List ℕ) (q : QueueFile) (e : Elem) (es : List Elem) (k : Laid 
   pub laid_trail : Trail img q.file_len (places_back (elements_of q img)) q.last.seq
   laid_trail = subst (λ (s : ℕ). Trail img q.file_len (places_back (elements_of q img)) s) (sym k.last-seq) over.trail
 
-  pub laid_recovers : recover_head img q.file_len q.last.pos q.last.seq q.elem_cnt ≡ Head q.first
+  pub laid_recovers : recover_head img q.file_len q.last.pos q.last.seq q.elem_cnt ≡ Ok q.first
   laid_recovers =
       let o = over in
       ap (λ (s : ℕ). recover_head img q.file_len q.last.pos s q.elem_cnt) k.last-seq

@@ -11,16 +11,15 @@ use Rattle.ring.specs.Ring.{ring_read}
 use Rattle.format.proofs.ElementLaws.{parsed}
 use Rattle.queue.specs.Element.{header_at}
 use Rattle.queue.specs.State.{used_bytes, sound_lengths, sound_numbers, sound_ends, sound}
-use Rattle.queue.specs.declared.state.Count.TheVariants.{Bytes}
 use Rattle.writing.specs.Work.{with_length}
 use Rattle.writing.specs.Commit.{judge_numbers}
 use Rattle.writing.specs.Length.{grow_length, least_from}
-use Rattle.writing.specs.Growth.{wrapped, commits_growth, judge_length, walked, check_growth}
+use Rattle.writing.specs.Growth.{wrapped, commits_growth, judge_length, check_growth}
 use Rattle.writing.specs.Expansion.{lengthened, expanded, grown, judge_expansion, expand_of}
-use Rattle.writing.specs.declared.answer.Changed.TheVariants.{Queue}
 use Rattle.assurance.specs.Linked.{Stands}
 use Rattle.assurance.specs.Growth.{LinkedIsNeeded}
 use Rattle.assurance.specs.GrowthSamples.{adrift, zeros}
+use Rattle.std.specs.Prelude.{Ok}
 
 length-zeros : length zeros ≡ 16474
 unfolding zeros
@@ -30,17 +29,21 @@ is_sound : sound adrift (length zeros) ≡ true
 unfolding sound sound_lengths sound_numbers sound_ends
 is_sound = rw (length-zeros)
 
-planned : check_growth adrift zeros (judge_expansion adrift (length zeros) 2) ≡ Bytes 16474
-unfolding judge_expansion judge_length judge_numbers grow_length least_from used_bytes commits_growth walked wrapped demand
+planned : judge_expansion adrift (length zeros) 2 ≡ Ok 16474
+unfolding judge_expansion judge_length judge_numbers grow_length least_from used_bytes commits_growth wrapped demand
 planned = rw (is_sound, length-zeros)
+
+checked : check_growth adrift zeros 16474 ≡ Ok tt
+unfolding check_growth wrapped
+checked = refl
 
 grows : grown 16474 (adrift, zeros) ≡ (with_length adrift 16474, zeros)
 unfolding grown expanded lengthened wrapped
 grows = refl
 
-answer : expand_of adrift 2 zeros ≡ (Queue (with_length adrift 16474), zeros)
+answer : expand_of adrift 2 zeros ≡ (Ok (with_length adrift 16474), zeros)
 unfolding expand_of
-answer = rw (planned, grows)
+answer = rw (planned, checked, grows)
 
 -- the byte at its first is 0, and not that of a header
 zero_there : get_or zeros 8192 0 ≡ 0

@@ -6,13 +6,13 @@ use native.Mathlib.Nat.{mod-eq_of_lt, mod-add-mod}
 use native.Mathlib.Omega.{arith}
 use lib.ListN.{length}
 use borrow.Author.Tests.{eq-eqb, le-leb}
-use Rattle.refusal.specs.declared.Verdict.TheVariants as Verdict
 use Rattle.refusal.proofs.Laws.{pass}
 use Rattle.queue.specs.Element.{capacity}
 use Rattle.writing.specs.Growth.{walk_from, walk_old_ring}
 use Rattle.assurance.specs.Growth.{LinkedPassesWalk}
 use Rattle.assurance.proofs.Chain.{Elem, span, total, Holds, Chain, last_from, header_there}
 use Rattle.assurance.proofs.Bridge.{linked_laid}
+use Rattle.std.specs.Prelude.{Ok}
 
 -- one element
 step : (left : ℕ) (img : List ℕ) (file last before p spans : ℕ) (e : Elem) → Holds img (capacity file) p e → spans + span e ≤ capacity file
@@ -24,14 +24,14 @@ step left img file last before p spans e h l =
     (pass _ _ _ (le-leb (spans + span e) (capacity file) l)
     ∙ ap (λ (x : ℕ). walk_from img file last left (p % capacity file) x (spans + span e)) (mod-add-mod p (capacity file) (span e)))
 
-ends : (img : List ℕ) (file last before p spans : ℕ) → before ≡ last → walk_from img file last zero before p spans ≡ Verdict.Granted
+ends : (img : List ℕ) (file last before p spans : ℕ) → before ≡ last → walk_from img file last zero before p spans ≡ Ok tt
 unfolding walk_from
 ends img file last before p spans e = pass _ _ _ (eq-eqb before last e)
 
 -- all of them
 walks : (es : List Elem) (img : List ℕ) (file last before p spans : ℕ) (e : Elem) → Chain img (capacity file) p (e ∷ es)
     → spans + total (e ∷ es) ≤ capacity file → last_from p e es % capacity file ≡ last
-    → walk_from img file last (suc (length es)) before (p % capacity file) spans ≡ Verdict.Granted
+    → walk_from img file last (suc (length es)) before (p % capacity file) spans ≡ Ok tt
 walks [] img file last before p spans e c l z =
     step zero img file last before p spans e c.0 (omega arith) ∙ ends img file last (p % capacity file) _ _ z
 walks (f ∷ es) img file last before p spans e c l z =

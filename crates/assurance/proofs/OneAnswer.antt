@@ -30,26 +30,21 @@ one_then {A = A} f r r' s s' p q =
 pub refusal_answers : RefusalAnswers
 refusal_answers =
     record {
-      Refusal::sequence_mismatch = λ expected found. one;
-      Refusal::field_too_large = λ field. one;
-      Refusal::unsupported_version = λ version. one;
-      plain_refusals = one;
-      «Verdict::refusal» = λ self. one;
+      Refusal::number = λ self. one;
+      Refusal::values = λ self. one;
     }
 
 pub wire_answers : WireAnswers
 wire_answers =
     record {
-      u32_bytes = λ v. one;
-      u64_bytes = λ v. one;
-      get_u32 = λ s at. one;
-      get_u64 = λ s at. one;
+      «Number::bytes» = λ N value self. one;
+      «Number::of_bytes» = λ with_value bytes. one;
+      get = λ T N s at. one;
       starts_with = λ s p. one;
       part = λ s at n. one;
       copy_into = λ out src. one;
       put = λ out at src. one;
-      put_u32 = λ out at v. one;
-      put_u64 = λ out at v. one;
+      put_number = λ T N out at v. one;
       fill = λ out value. one;
       fill_at = λ out at n value. one;
     }
@@ -67,7 +62,7 @@ pub script_answers : ScriptAnswers
 script_answers =
     record {
       parse_number = λ word. one;
-      worth = λ b. one;
+      digit = λ b. one;
       parse_bytes = λ word out. pair;
       line_end = λ text from. one;
       count_words = λ line. one;
@@ -79,7 +74,6 @@ header_answers =
     record {
       «HeaderSlot::toggle» = λ self. one;
       «HeaderSlot::offset» = λ self. one;
-      «ParsedSlot::refusal» = λ self. one;
       build_slot_bytes = λ «data». one;
       encode_v2_slot = λ file_len elem_cnt first_phys last_phys generation next_seq. one;
       judge_fields = λ limit count_limit file_len elem_cnt first_phys last_phys. one;
@@ -89,20 +83,16 @@ header_answers =
 pub format_answers : FormatAnswers
 format_answers =
     record {
-      «ParsedHeader::refusal» = λ self. one;
       encode_v2_element_header = λ seq prev_phys payload_len. one;
       parse_v2_element_header = λ s capacity. one;
       encode_v2_footer = λ seq payload. one;
       validate_v2_footer = λ s seq payload rest. one;
-      «ParsedMetadata::refusal» = λ self. one;
       encode_legacy_header = λ file_len elem_cnt first_phys last_phys. one;
       parse_legacy_header = λ s. one;
       encode_v1_header = λ file_len elem_cnt first_phys last_phys. one;
       parse_versioned_header = λ s. one;
-      «Elected::refusal» = λ self. one;
       elect_canonical_slot = λ slot_a slot_b. one;
       validate_v2_slot_data = λ slot real_file_len. one;
-      «Span::refusal» = λ self. one;
       FormatState::data_start = λ self. one;
       FormatState::elem_hdr_len = λ self. one;
       FormatState::elem_span = λ self payload_len. one;
@@ -113,11 +103,9 @@ format_answers =
 pub ring_answers : RingAnswers
 ring_answers =
     record {
-      «Parted::refusal» = λ self. one;
       split = λ image_len file_len logical_pos len. one;
       front_part = λ image file_len logical_pos len. one;
       wrapped_part = λ image file_len logical_pos len. one;
-      «Placed::refusal» = λ self. one;
       has_ring = λ start image_len file_len. one;
       add = λ image_len file_len logical_pos delta. one;
       distance = λ image_len file_len from to. one;
@@ -132,24 +120,20 @@ queue_answers =
     record {
       «Element::here» = λ pos header. one;
       validate_v2_element_header = λ image file_len logical_pos. one;
-      «Stepped::refusal» = λ self. one;
-      «Stepped::cursor» = λ self cursor. one;
+      «Cursor::after» = λ self stepped. one;
       «QueueFile::iter» = λ self. one;
       «QueueFile::step» = λ self image cursor out. one_then _;
       «Iter::new» = λ image state. one;
       «Iter::next» = λ self out. one_then _;
-      «Opened::refusal» = λ self. one;
       «open» = λ image real_len settings. one;
-      «Peeked::refusal» = λ self. one;
-      «PeekedPlace::refusal» = λ self. one;
       QueueFile::peek_into = λ self image out. one_then _;
       QueueFile::peek_place = λ self image. one;
       QueueFile::peek_part = λ self image. one;
       to_logical = λ phys. one;
-      «Recovered::refusal» = λ self. one;
       recover_v2_head = λ image file_len last_logical_pos last_seq elem_cnt. one;
-      «Count::refusal» = λ self. one;
       QueueFile::is_sound = λ self image_len. one;
+      QueueFile::sound = λ self image_len. one;
+      SoundQueue::remaining = λ self. one;
       QueueFile::used_bytes = λ self image_len. one;
       QueueFile::remaining_bytes = λ self image_len. one;
       open_strict = λ image real_len settings. one;
@@ -160,7 +144,6 @@ writing_answers =
     record {
       judge_add = λ q image_len payload_len. one;
       add = λ q image payload. pair;
-      «Changed::refusal» = λ self. one;
       clear = λ q image. pair;
       commit = λ q image. pair;
       compute_expanded_len = λ current_len remaining_bytes data_len. one;

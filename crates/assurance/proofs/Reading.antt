@@ -9,26 +9,20 @@ use lib.ListN.{length}
 use lib.Seq.{length-sets}
 use denote.Ref.{Bor}
 use borrow.Author.Tests.{le-leb, lt-leb, lt-ltb, ne_eqb}
-use Rattle.refusal.specs.declared.Verdict as Verdicts
-use Rattle.refusal.specs.declared.Verdict.TheVariants as Verdict
 use Rattle.refusal.proofs.Laws.{pass}
 use Rattle.wire.specs.Wire.{bytes_at, put_at}
 use Rattle.wire.proofs.Stores.{bytes_at-put_at}
 use Rattle.ring.specs.Ring.{ring_read}
 use Rattle.ring.proofs.Reading.{length_read}
-use Rattle.format.specs.declared.element.ParsedHeader.{ParsedHeader}
-use Rattle.queue.specs.Answers.{on_header, on_verdict}
+use Rattle.refusal.specs.Answer.{on_ok, on_verdict}
 use Rattle.queue.specs.Element.{capacity, element_here, payload_at, footer_verdict}
 use Rattle.queue.specs.State.{sound}
 use Rattle.queue.specs.Peek.{fit_peek, check_peek, judge_peek}
 use Rattle.queue.specs.Iter.{cursor_at, start_of, step_here, step_on, judge_step, stepped_output, cursor_after}
 use Rattle.queue.specs.declared.state.QueueFile.{QueueFile}
-use Rattle.queue.specs.declared.peek.Peeked.TheVariants as Peeked
 use Rattle.queue.specs.declared.iter.Cursor.{Cursor}
 use Rattle.queue.specs.declared.iter.Iter.{Iter}
 use Rattle.queue.specs.declared.iter.Step.{Step}
-use Rattle.queue.specs.declared.iter.Stepped as Answer
-use Rattle.queue.specs.declared.iter.Stepped.TheVariants as Stepped
 use Rattle.queue.proofs.IterLaws.{step_known}
 use Rattle.writing.proofs.Choices.{chosen, left_out}
 use Rattle.assurance.specs.Held.{sequences_of}
@@ -37,6 +31,9 @@ use Rattle.assurance.proofs.Chain.{Elem, header_of, span, total, Holds, Chain, R
 use Rattle.assurance.proofs.Laid.{Laid, laid_sound, laid_some}
 use Rattle.assurance.proofs.TrailWalk.{payload_there, footer_there}
 use Rattle.assurance.proofs.Bridge.{linked_laid, held_all, laid_elements}
+use Rattle.std.specs.Prelude.{Result, Ok, Err, Option, Some, None}
+use Rattle.refusal.specs.declared.Refusal.{Refusal}
+use Rattle.format.specs.declared.element.V2ElementHeader.{V2ElementHeader}
 
 -- ---- one run
 
@@ -65,17 +62,17 @@ module _ (img : List ℕ) (q : QueueFile) (e : Elem) (es : List Elem) (k : Laid 
   first-place : q.first.pos ≡ q.first.pos % capacity q.file_len
   first-place = sym (mod-eq_of_lt {n = q.first.pos} {m = capacity q.file_len} k.first_low)
 
-  peeked : (room : ℕ) → q.first.len ≤ room → judge_peek q img room ≡ Peeked.Payload q.first.len
+  peeked : (room : ℕ) → q.first.len ≤ room → judge_peek q img room ≡ Ok (Some q.first.len)
   unfolding judge_peek fit_peek
   peeked room l =
-      let fits : fit_peek q (length img) room ≡ Peeked.Payload q.first.len =
+      let fits : fit_peek q (length img) room ≡ Ok (Some q.first.len) =
       pass _ _ _ (laid_sound img q e es k)
       ∙ sym (left_out _ _ _ (ne_eqb q.elem_cnt 0 (laid_some img q e es k)))
       ∙ pass _ _ _ (le-leb q.first.len room l) in
-      let foot : footer_verdict img q.file_len q.first ≡ Verdict.Granted =
+      let foot : footer_verdict img q.file_len q.first ≡ (Ok tt) =
       ap (footer_verdict img q.file_len) first_known
       ∙ footer_there img q.file_len q.first.pos q.first.pos e first-place k.holds.0 in
-      ap (check_peek img q) fits ∙ ap (λ (v : Verdicts.Verdict). on_verdict Peeked.Refused v (Peeked.Payload q.first.len)) foot
+      ap (check_peek img q) fits ∙ ap (λ (v : Result (Unit {0}) Refusal). on_verdict Err v (Ok (Some q.first.len))) foot
 
 pub peek_gives_first : PeekGivesFirst
 peek_gives_first img q room w l =
@@ -95,20 +92,20 @@ module _ (img : List ℕ) (q : QueueFile) (room : ℕ) (ok : sound q (length img
   size = capacity q.file_len
 
   one : (index p : ℕ) (e : Elem) → Holds img size p e → span e ≤ size → index < q.elem_cnt
-      → judge_step q img (cursor_at index (p % size)) room ≡ Stepped.Element (step_here q.file_len (cursor_at index (p % size)) (header_of e))
+      → judge_step q img (cursor_at index (p % size)) room ≡ Ok (Some (step_here q.file_len (cursor_at index (p % size)) (header_of e)))
   unfolding judge_step
   one index p e h l i =
       let low : p % size < size = mod-lt p ring in
       pass _ _ _ ok
       ∙ sym (left_out _ _ _ (lt-leb q.elem_cnt index i))
       ∙ pass _ _ _ (lt-ltb (p % size) size low)
-      ∙ ap (λ (d : ParsedHeader). on_header Stepped.Refused d (step_on img q.file_len (cursor_at index (p % size)) room))
+      ∙ ap (λ (d : Result V2ElementHeader Refusal). on_ok Err d (step_on img q.file_len (cursor_at index (p % size)) room))
       (header_there img q.file_len p (p % size) e refl h)
       ∙ pass _ _ _ (le-leb (length e.payload) room (omega arith))
-      ∙ ap (λ (v : Verdicts.Verdict). on_verdict Stepped.Refused v (Stepped.Element (step_here q.file_len (cursor_at index (p % size)) (header_of e))))
+      ∙ ap (λ (v : Result (Unit {0}) Refusal). on_verdict Err v (Ok (Some (step_here q.file_len (cursor_at index (p % size)) (header_of e)))))
       (footer_there img q.file_len p (p % size) e refl h)
 
-  ended : (index p : ℕ) → q.elem_cnt ≤ index → judge_step q img (cursor_at index p) room ≡ Stepped.End
+  ended : (index p : ℕ) → q.elem_cnt ≤ index → judge_step q img (cursor_at index p) room ≡ Ok None
   unfolding judge_step
   ended index p l = pass _ _ _ ok ∙ sym (chosen _ _ _ (le-leb q.elem_cnt index l))
 
@@ -117,10 +114,10 @@ module _ (img : List ℕ) (q : QueueFile) (room : ℕ) (ok : sound q (length img
   unfolding handed
   all [] index p zero c l i s = refl
   all [] index p (suc steps) c l i s =
-      ap (λ (a : Answer.Stepped). handed_step img q.file_len a (handed q img room steps)) (ended index (p % size) (omega arith))
+      ap (λ (a : Result (Option Step) Refusal). handed_step img q.file_len a (handed q img room steps)) (ended index (p % size) (omega arith))
   all (e ∷ es) index p zero c l i s = absurd (omega arith)
   all (e ∷ es) index p (suc steps) c l i s =
-      ap (λ (a : Answer.Stepped). handed_step img q.file_len a (handed q img room steps)) (one index p e c.0 (omega arith) (omega arith))
+      ap (λ (a : Result (Option Step) Refusal). handed_step img q.file_len a (handed q img room steps)) (one index p e c.0 (omega arith) (omega arith))
       ∙ rw (
         payload_there img q.file_len p (p % size) e refl c.0,
         mod-add-mod p size (span e),
@@ -147,7 +144,7 @@ module _ (image : Bor (List ℕ)) (q : QueueFile) where
   from c = record { image = image; state = q; cursor = c }
 
   -- what was put at the output's front is read there: there is room for it
-  front : (c : Cursor) (out : List ℕ) (s : Step) → judge_step q image.now c (length out) ≡ Stepped.Element s
+  front : (c : Cursor) (out : List ℕ) (s : Step) → judge_step q image.now c (length out) ≡ Ok (Some s)
       → bytes_at s.elem.len (put_at out 0 (payload_at image.now file s.elem)) 0 ≡ payload_at image.now file s.elem
   unfolding payload_at
   front c out s e =
@@ -157,16 +154,16 @@ module _ (image : Bor (List ℕ)) (q : QueueFile) where
       ∙ bytes_at-put_at out 0 p (omega (arith, n, (step_known q image.now c (length out) s e).1))
 
   -- a step of the reader is a step from its cursor; ih: so is each after it
-  step_read : (c : Cursor) (out : List ℕ) (left : ℕ) (a : Answer.Stepped) → judge_step q image.now c (length out) ≡ a
+  step_read : (c : Cursor) (out : List ℕ) (left : ℕ) (a : Result (Option Step) Refusal) → judge_step q image.now c (length out) ≡ a
       → ((c' : Cursor) (out' : List ℕ) → length out' ≡ length out → read_by (from c') out' left ≡ handed q image.now (length out) left c')
       → read_step a (stepped_output a image.now file out) (read_by (from (cursor_after a c)) (stepped_output a image.now file out) left)
       ≡ handed_step image.now file a (handed q image.now (length out) left)
-  step_read c out left (Stepped.Element s) e ih =
+  step_read c out left (Ok (Some s)) e ih =
       let p : List ℕ = payload_at image.now file s.elem in
       λ i. record { place = s.elem.pos; seq = s.elem.seq; back = s.prev_pos; payload = front c out s e i }
       ∷ ih s.next (put_at out 0 p) (length-sets out 0 p) i
-  step_read c out left Stepped.End e ih = refl
-  step_read c out left (Stepped.Refused r) e ih = refl
+  step_read c out left (Ok None) e ih = refl
+  step_read c out left (Err r) e ih = refl
 
   read_handed : (room steps : ℕ) (c : Cursor) (out : List ℕ) → length out ≡ room → read_by (from c) out steps ≡ handed q image.now room steps c
   unfolding read_by handed

@@ -7,17 +7,17 @@ use lib.ListN.{replicate}
 use denote.Ref.{Bor}
 use Rattle.queue.specs.Peek.{judge_peek}
 use Rattle.queue.specs.Iter.{start_of, reader_of}
-use Rattle.queue.specs.declared.peek.Peeked.TheVariants as Peeked
 use Rattle.assurance.specs.Held.{elements_of, sequences_of}
 use Rattle.assurance.specs.Reading.{handed, read_by}
 use Rattle.assurance.specs.Samples.{trail_file, two_from}
 use Rattle.assurance.proofs.Reading.{linked_is_one-run, peek_gives_first, iteration_gives_all, reader_gives_all}
 use Rattle.assurance.proofs.OpeningSamples.{trail-linked, trail-holds}
+use Rattle.std.specs.Prelude.{Ok, Some}
 
 pub trail-sequences : sequences_of (elements_of (two_from 1) trail_file) ≡ 1 ∷ 2 ∷ []
 trail-sequences = linked_is_one-run trail_file (two_from 1) trail-linked
 
-pub trail_peek : judge_peek (two_from 1) trail_file 0 ≡ Peeked.Payload 0
+pub trail_peek : judge_peek (two_from 1) trail_file 0 ≡ Ok (Some 0)
 trail_peek = (peek_gives_first trail_file (two_from 1) 0 trail-linked (omega arith)).0
 
 pub trail_iterates : handed (two_from 1) trail_file 88 2 (start_of (two_from 1))

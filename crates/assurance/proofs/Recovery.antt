@@ -1,4 +1,5 @@
 -- Recovery finds exactly the trail that is there: both ways by induction on the steps that are left. Assumes nothing.
+use Rattle.refusal.proofs.Laws.{refused, granted, keep}
 use mathlib.Core.Path.{◌≡◌, refl, sym, ap, ◌∙◌}
 use mathlib.Core.List.{List, [], ◌∷◌}
 use Prim.Native.Nat.{ℕ, zero, suc, ◌+◌, ◌-◌, ◌<◌, ◌≤◌}
@@ -8,35 +9,26 @@ use borrow.Author.Tests.{le-leb, eq-eqb, ne_eqb, leb-true}
 use lib.ListN.{length, get_or}
 use Rattle.refusal.specs.Demand.{demand}
 use Rattle.refusal.specs.declared.Refusal.{Refusal}
-use Rattle.refusal.proofs.Laws.{granted, keep}
-use Rattle.ring.specs.declared.place.Placed.{Placed}
 use Rattle.ring.proofs.Places.{ring_there}
 use Rattle.format.specs.declared.element.V2ElementHeader.{V2ElementHeader}
-use Rattle.format.specs.declared.element.ParsedHeader.{ParsedHeader}
-use Rattle.format.specs.declared.element.ParsedHeader.TheVariants as Parsed
-use Rattle.queue.specs.Answers.{on_place}
+use Rattle.refusal.specs.Answer.{on_ok}
 use Rattle.queue.specs.Element.{element_here, header_at}
 use Rattle.queue.specs.Recover.{go_back, recover_from}
 use Rattle.queue.specs.declared.element.Element.{Element}
-use Rattle.queue.specs.declared.recover.Recovered.{Recovered}
-use Rattle.queue.specs.declared.recover.Recovered.TheVariants.{Head, Refused}
 use Rattle.queue.proofs.Headers.{on_sequence}
 use Rattle.queue.proofs.RecoverLaws.{recover_opens}
 use Rattle.assurance.specs.Recovery.{Trail, Recovery, RecoveryIsExact, TrailIsUnique}
-
--- a refusal is not a head
-pub no_head : {r : Refusal} {e : Element} → Refused r ≡ Head e → ⊥
-no_head q = let z : ◌≡◌ {A = ℕ} 0 1 = cc in omega arith
+use Rattle.std.specs.Prelude.{Result, Ok, Err}
 
 -- ---- what a step that came to a head has passed
 
 -- a backlink that names a place
-went_back : (link : ℕ) (next : ℕ → Recovered) (e : Element) → go_back link next ≡ Head e → (8192 ≤ link) × (next (link - 8192) ≡ Head e)
+went_back : (link : ℕ) (next : ℕ → Result Element Refusal) (e : Element) → go_back link next ≡ Ok e → (8192 ≤ link) × (next (link - 8192) ≡ Ok e)
 went_back link next e q =
-    keep (λ (d : Placed). on_place Refused d next ≡ Head e → (8192 ≤ link) × (next (link - 8192) ≡ Head e)) _ _ _
-    (λ z. absurd (no_head z))
+    keep (λ (d : Result ℕ Refusal). on_ok Err d next ≡ Ok e → (8192 ≤ link) × (next (link - 8192) ≡ Ok e)) _ _ _
+    (λ z. absurd (refused z))
     (λ b z. (leb-true 8192 link b, z))
-    (granted _ _ _ _ no_head q).1
+    (granted _ _ _ _ refused q).1
 
 -- a header before those of a trail
 abbrev before : V2ElementHeader → (ℕ → V2ElementHeader) → ℕ → V2ElementHeader
@@ -46,8 +38,8 @@ before h f (suc i) = f i
 module _ (img : List ℕ) (file : ℕ) where
   -- ---- a trail of one place, and a place put before a trail
 
-  module _ (p : ℕ) (h : V2ElementHeader) (v : header_at img file p ≡ Parsed.Header h) where
-    alone-valid : (i : ℕ) → i < 1 → header_at img file (get_or (p ∷ []) i 0) ≡ Parsed.Header h
+  module _ (p : ℕ) (h : V2ElementHeader) (v : header_at img file p ≡ Ok h) where
+    alone-valid : (i : ℕ) → i < 1 → header_at img file (get_or (p ∷ []) i 0) ≡ Ok h
     alone-valid zero l = v
     alone-valid (suc i) l = absurd (omega arith)
 
@@ -61,7 +53,7 @@ module _ (img : List ℕ) (file : ℕ) where
 
     module _ (q t : ℕ) (rest : List ℕ) (r : Trail img file (q ∷ rest) t) (b : h.prev_pos ≡ 8192 + q) where
       put-valid : (i : ℕ) → i < suc (suc (length rest)) →
-          header_at img file (get_or (p ∷ q ∷ rest) i 0) ≡ Parsed.Header (before h r.header i)
+          header_at img file (get_or (p ∷ q ∷ rest) i 0) ≡ Ok (before h r.header i)
       put-valid zero l = v
       put-valid (suc i) l = r.valid i (omega arith)
 
@@ -92,7 +84,7 @@ module _ (img : List ℕ) (file : ℕ) where
 
   -- where there is a trail recovery succeeds with its last place
   complete : (ts s p t : ℕ) (rest : List ℕ) → s + t ≡ ts → (r : Trail img file (p ∷ rest) t) →
-      recover_from img file ts (suc (length rest)) s p ≡ Head (last_of p t rest r)
+      recover_from img file ts (suc (length rest)) s p ≡ Ok (last_of p t rest r)
   unfolding recover_from demand
   complete ts s p t [] e r =
       let f : (r.header 0).seq + 0 ≡ t = r.falls 0 (omega arith) in
@@ -122,11 +114,11 @@ module _ (img : List ℕ) (file : ℕ) where
     pub trail : Trail img file (p ∷ rest) t
     pub answer : e ≡ last_of p t rest trail
 
-  sound : (ts n s t p : ℕ) (e : Element) → t ≡ ts - s → recover_from img file ts (suc n) s p ≡ Head e → Walked ts s t p n e
+  sound : (ts n s t p : ℕ) (e : Element) → t ≡ ts - s → recover_from img file ts (suc n) s p ≡ Ok e → Walked ts s t p n e
   unfolding recover_from
   sound ts zero s t p e i h =
-      let g = granted _ _ _ _ no_head h in
-      let j = on_sequence Refused (header_at img file p) (ts - s) _ (Head e) (λ r. no_head) g.1 in
+      let g = granted _ _ _ _ refused h in
+      let j = on_sequence Err (header_at img file p) (ts - s) _ (Ok e) (λ r. refused) g.1 in
       record {
         within = leb-true s ts g.0;
         rest = [];
@@ -135,8 +127,8 @@ module _ (img : List ℕ) (file : ℕ) where
         answer = cc j.goes;
       }
   sound ts (suc n) s t p e i h =
-      let g = granted _ _ _ _ no_head h in
-      let j = on_sequence Refused (header_at img file p) (ts - s) _ (Head e) (λ r. no_head) g.1 in
+      let g = granted _ _ _ _ refused h in
+      let j = on_sequence Err (header_at img file p) (ts - s) _ (Ok e) (λ r. refused) g.1 in
       let prev : ℕ = j.header.prev_pos in
       let b = went_back prev _ e j.goes in
       let far : 8192 ≤ prev = b.0 in
@@ -155,9 +147,9 @@ module _ (img : List ℕ) (file : ℕ) where
 -- ---- the theorem
 
 -- a walk that comes to a head has gone over a trail
-found : (img : List ℕ) (file tail ts n : ℕ) (e : Element) → recover_from img file ts n 0 tail ≡ Head e → Recovery img file tail ts n e
+found : (img : List ℕ) (file tail ts n : ℕ) (e : Element) → recover_from img file ts n 0 tail ≡ Ok e → Recovery img file tail ts n e
 unfolding recover_from
-found img file tail ts zero e h = absurd (no_head h)
+found img file tail ts zero e h = absurd (refused h)
 found img file tail ts (suc n) e h =
     let w = sound img file ts n 0 ts tail e (sym (sub-zero ts)) h in
     let m : length w.rest ≡ n = w.many in
@@ -172,14 +164,14 @@ found img file tail ts (suc n) e h =
 
 -- a trail leads a walk to its last place
 there : (img : List ℕ) (file tail ts n : ℕ) (e : Element) (places : List ℕ) → 1 ≤ n → length places ≡ n → get_or places 0 0 ≡ tail →
-    (r : Trail img file places ts) → e ≡ element_here (get_or places (n - 1) 0) (r.header (n - 1)) → recover_from img file ts n 0 tail ≡ Head e
+    (r : Trail img file places ts) → e ≡ element_here (get_or places (n - 1) 0) (r.header (n - 1)) → recover_from img file ts n 0 tail ≡ Ok e
 there img file tail ts n e [] l m f r a = absurd (omega arith)
 there img file tail ts n e (x ∷ rest) l m f r a =
     let z : n - 1 ≡ length rest = omega arith in
     ap (λ (k : ℕ). recover_from img file ts k 0 tail) (sym m)
     ∙ ap (λ (p : ℕ). recover_from img file ts (suc (length rest)) 0 p) (sym f)
     ∙ complete img file ts 0 x ts rest (zero-add ts) r
-    ∙ ap Head (sym (rw z at a))
+    ∙ ap Ok (sym (rw z at a))
 
 pub recovery_is_exact : RecoveryIsExact
 recovery_is_exact img file tail ts n e a b l =
@@ -189,7 +181,7 @@ recovery_is_exact img file tail ts n e a b l =
 -- ---- uniqueness
 
 -- one header has one backlink
-same_backlink : {x : ParsedHeader} {h k : V2ElementHeader} → x ≡ Parsed.Header h → x ≡ Parsed.Header k → h.prev_pos ≡ k.prev_pos
+same_backlink : {x : Result V2ElementHeader Refusal} {h k : V2ElementHeader} → x ≡ Ok h → x ≡ Ok k → h.prev_pos ≡ k.prev_pos
 same_backlink a b = cc
 
 one-trail : (img : List ℕ) (file p t : ℕ) (a b : List ℕ) → length a ≡ length b →

@@ -7,14 +7,12 @@ use mathlib.Core.List.{List, ◌++◌}
 use native.Mathlib.Omega.{arith}
 use lib.ListN.{length, drop}
 use lib.Dec.{leb, eqb}
-use Rattle.refusal.specs.Verdict.{verdict_refusal, after}
+use Rattle.std.proofs.lemmas.Option.{none-some}
+use Rattle.refusal.specs.Answer.{number_or_0, after, on_verdict, on_ok}
 use Rattle.refusal.specs.declared.Refusal.{Refusal}
-use Rattle.refusal.specs.declared.Verdict.{Verdict}
-use Rattle.refusal.specs.declared.Verdict.TheVariants as Verdicts
 use Rattle.refusal.proofs.Laws.{keep}
 use Rattle.ring.specs.Ring.{judge_ring, judge_relocation}
 use Rattle.wire.specs.Wire.{put_at}
-use Rattle.queue.specs.Answers.{on_verdict}
 use Rattle.queue.specs.Element.{payload_at}
 use Rattle.queue.specs.Peek.{judge_peek, peeked_output}
 use Rattle.queue.specs.Iter.{start_of, judge_step, stepped_output, cursor_after, next_of, next_output}
@@ -23,63 +21,52 @@ use Rattle.queue.specs.declared.iter.Iter.{Iter}
 use Rattle.queue.specs.declared.iter.Next.{Next}
 use Rattle.queue.specs.declared.state.Settings.{Settings}
 use Rattle.queue.specs.declared.state.QueueFile.{QueueFile}
-use Rattle.queue.specs.declared.opening.Opened as Opening
-use Rattle.queue.specs.declared.opening.Opened.TheVariants as Opened
-use Rattle.queue.specs.declared.peek.Peeked as Peek
-use Rattle.queue.specs.declared.peek.Peeked.TheVariants as Peeked
 use Rattle.queue.specs.declared.iter.Cursor.{Cursor}
-use Rattle.queue.specs.declared.iter.Stepped as Iterating
-use Rattle.queue.specs.declared.iter.Stepped.TheVariants as Stepped
-use Rattle.queue.specs.declared.state.Count as Number
-use Rattle.queue.specs.declared.state.Count.TheVariants as Count
-use Rattle.writing.specs.Work.{Work, done, kept, on_count}
+use Rattle.writing.specs.Work.{Work, done, kept}
 use Rattle.writing.specs.Commit.{judge_numbers, judge_commit, committed, commit_of}
 use Rattle.writing.specs.Growth.{check_growth}
 use Rattle.writing.specs.Expansion.{grown, judge_expansion, expand_of}
 use Rattle.writing.specs.Adding.{appended, judge_add, add_of}
-use Rattle.writing.specs.Removal.{skip_from, on_skipped, dropped, removed_zeroed, remove_to, remove_some, remove_of}
+use Rattle.writing.specs.Removal.{skip_from, dropped, removed_zeroed, remove_to, remove_some, remove_of}
 use Rattle.writing.specs.Clearing.{cleared, clear_of}
 use Rattle.writing.specs.Fresh.{fresh_of}
-use Rattle.writing.specs.declared.answer.Changed.{Changed}
-use Rattle.writing.specs.declared.answer.Changed.TheVariants.{Queue, Refused}
-use Rattle.writing.specs.declared.removal.Skipped as Walk
-use Rattle.writing.specs.declared.removal.Skipped.TheVariants as Skipped
 use Rattle.writing.proofs.Choices.{either}
 use Rattle.exports.specs.Runs.{Run, on_opened, opened, on_changed, run_from, run_of, on_peeked, output_peeked, peeks_from, on_stepped, output_stepped, steps_from}
 use Rattle.script.specs.Hex.{is_dash, is_hex, unhex, bytes_of}
-use Rattle.script.specs.declared.hex.Bytes.{Bytes}
-use Rattle.script.specs.declared.hex.Bytes.TheVariants as Spelt
 use Rattle.assurance.specs.Refusals.{next_refused, RefusalsChangeNothing}
+use Rattle.std.specs.Prelude.{Result, Ok, Err, Option, Some, None}
+use Rattle.queue.specs.declared.iter.Step.{Step}
 
 -- ---- what changes a queue
 
 -- an answer that leaves the image as it was, if it refuses
-abbrev Kept : List ℕ → Changed × List ℕ → Type 0
-Kept img a = (img' : List ℕ) (r : Refusal) → a ≡ (Refused r, img') → img' ≡ img
+abbrev Kept : List ℕ → Result QueueFile Refusal × List ℕ → Type 0
+Kept img a = (img' : List ℕ) (r : Refusal) → a ≡ (Err r, img') → img' ≡ img
 
 kept_keeps : (img : List ℕ) (r : Refusal) → Kept img (kept img r)
-kept_keeps img r img' r' e = sym (ap (λ (a : Changed × List ℕ). a.1) e)
+kept_keeps img r img' r' e = sym (ap (λ (a : Result QueueFile Refusal × List ℕ). a.1) e)
 
 -- what is done is not refused
 done_keeps : (img : List ℕ) (w : Work) → Kept img (done w)
-done_keeps img w img' r e = absurd (clash (ap (λ (a : Changed × List ℕ). a.0) e))
+done_keeps img w img' r e = absurd (clash (ap (λ (a : Result QueueFile Refusal × List ℕ). a.0) e))
   where
-    clash : Queue w.0 ≡ Refused r → ⊥
+    clash : Ok w.0 ≡ Err r → ⊥
     clash c = let z : ◌≡◌ {A = ℕ} 0 1 = cc in omega arith
 
 -- what goes on from another answer keeps the image if it does where it goes on
-on_verdict_lem : (img : List ℕ) (v : Verdict) (next : Changed × List ℕ) → Kept img next → Kept img (on_verdict (kept img) v next)
-on_verdict_lem img Verdicts.Granted next k = k
-on_verdict_lem img (Verdicts.Refused r) next k = kept_keeps img r
+on_verdict_lem : (img : List ℕ) (v : Result (Unit {0}) Refusal) (next : Result QueueFile Refusal × List ℕ) → Kept img next → Kept img (on_verdict (kept img) v next)
+on_verdict_lem img (Ok tt) next k = k
+on_verdict_lem img (Err r) next k = kept_keeps img r
 
-on_count_lem : (img : List ℕ) (c : Number.Count) (next : ℕ → Work) → Kept img (on_count (kept img) c (λ n. done (next n)))
-on_count_lem img (Count.Bytes n) next = done_keeps img (next n)
-on_count_lem img (Count.Refused r) next = kept_keeps img r
+on_count_lem : (img : List ℕ) (c : Result ℕ Refusal) (v : ℕ → Result (Unit {0}) Refusal) (next : ℕ → Work) →
+    Kept img (on_ok (kept img) c (λ n. on_verdict (kept img) (v n) (done (next n))))
+on_count_lem img (Ok n) v next = on_verdict_lem img (v n) _ (done_keeps img (next n))
+on_count_lem img (Err r) v next = kept_keeps img r
 
-on_skipped_lem : (img : List ℕ) (s : Walk.Skipped) (next : Element → Changed × List ℕ) → ((e : Element) → Kept img (next e)) →
-    Kept img (on_skipped (kept img) s next)
-on_skipped_lem img (Skipped.To e) next k = k e
-on_skipped_lem img (Skipped.Refused r) next k = kept_keeps img r
+on_skipped_lem : (img : List ℕ) (s : Result Element Refusal) (next : Element → Result QueueFile Refusal × List ℕ) → ((e : Element) → Kept img (next e)) →
+    Kept img (on_ok (kept img) s next)
+on_skipped_lem img (Ok e) next k = k e
+on_skipped_lem img (Err r) next k = kept_keeps img r
 
 fresh_keeps : (n : ℕ) (settings : Settings) (img : List ℕ) → Kept img (fresh_of n settings img)
 unfolding fresh_of
@@ -96,7 +83,7 @@ commit_keeps q img = on_verdict_lem img (judge_commit q (length img)) _ (done_ke
 add_keeps : (q : QueueFile) (payload img : List ℕ) → Kept img (add_of q payload img)
 unfolding add_of
 add_keeps q payload img =
-    on_count_lem img (check_growth q img (judge_add q (length img) (length payload))) (λ n. committed (appended payload (grown n (q, img))))
+    on_count_lem img (judge_add q (length img) (length payload)) (check_growth q img) (λ n. committed (appended payload (grown n (q, img))))
 
 clear_keeps : (q : QueueFile) (img : List ℕ) → Kept img (clear_of q img)
 unfolding clear_of
@@ -120,20 +107,17 @@ remove_keeps q n img =
 
 expand_keeps : (q : QueueFile) (span : ℕ) (img : List ℕ) → Kept img (expand_of q span img)
 unfolding expand_of
-expand_keeps q span img = on_count_lem img (check_growth q img (judge_expansion q (length img) span)) (λ n. grown n (q, img))
+expand_keeps q span img = on_count_lem img (judge_expansion q (length img) span) (check_growth q img) (λ n. grown n (q, img))
 
 -- ---- a byte string of the script
 
 -- the one answer that is bad keeps the output
 spelt : (b : Bool) (n : ℕ) (new out out' : List ℕ) →
-    ◌≡◌ {A = Bytes × List ℕ} (cond b (Spelt.Of n, new) (Spelt.Bad, out)) (Spelt.Bad, out') → out' ≡ out
-spelt true n new out out' e = absurd (clash (ap (λ (a : Bytes × List ℕ). a.0) e))
-  where
-    clash : Spelt.Of n ≡ Spelt.Bad → ⊥
-    clash c = let z : ◌≡◌ {A = ℕ} 0 1 = cc in omega arith
-spelt false n new out out' e = sym (ap (λ (a : Bytes × List ℕ). a.1) e)
+    ◌≡◌ {A = Option ℕ × List ℕ} (cond b (Some n, new) (None, out)) (None, out') → out' ≡ out
+spelt true n new out out' e = absurd (none-some n (sym (ap (λ (a : Option ℕ × List ℕ). a.0) e)))
+spelt false n new out out' e = sym (ap (λ (a : Option ℕ × List ℕ). a.1) e)
 
-bytes_keep : (word out out' : List ℕ) → bytes_of word out ≡ (Spelt.Bad, out') → out' ≡ out
+bytes_keep : (word out out' : List ℕ) → bytes_of word out ≡ (None, out') → out' ≡ out
 unfolding bytes_of
 bytes_keep word out out' =
     spelt ((is_dash word || is_hex word) && (leb (length (unhex word)) 262144 && leb (length (unhex word)) (length out)))
@@ -154,50 +138,50 @@ reader_stays it room x e =
 
 -- ---- a verdict's number
 
-numbered : (v : Verdict) (n : ℕ) (new old s : List ℕ) → (suc n ≡ (verdict_refusal v).number) × (s ≡ after v new old) → s ≡ old
-numbered Verdicts.Granted n new old s p = absurd (omega (arith, p.0))
-numbered (Verdicts.Refused r) n new old s p = p.1
+numbered : (v : Result (Unit {0}) Refusal) (n : ℕ) (new old s : List ℕ) → (suc n ≡ number_or_0 v) × (s ≡ after v new old) → s ≡ old
+numbered (Ok tt) n new old s p = absurd (omega (arith, p.0))
+numbered (Err r) n new old s p = p.1
 
 -- ---- a run of operations, of which none was carried out
 
 -- where an operation is carried out, the rest counts one more; where it is not, the count stays
-on_changed_lem : (a : Changed) (img : List ℕ) (k : ℕ) (next : QueueFile → List ℕ → Run) →
+on_changed_lem : (a : Result QueueFile Refusal) (img : List ℕ) (k : ℕ) (next : QueueFile → List ℕ → Run) →
     ((q : QueueFile) (img' : List ℕ) → k + 1 ≤ (next q img').0) → k ≤ (on_changed a img k next).0
-on_changed_lem (Queue q) img k next more = let h = more q img in omega (arith, h)
-on_changed_lem (Refused r) img k next more = omega arith
+on_changed_lem (Ok q) img k next more = let h = more q img in omega (arith, h)
+on_changed_lem (Err r) img k next more = omega arith
 
-on_peeked_lem : (a : Peek.Peeked) (out : List ℕ) (k : ℕ) (next : List ℕ → Run) → ((out' : List ℕ) → k + 1 ≤ (next out').0) →
+on_peeked_lem : (a : Result (Option ℕ) Refusal) (out : List ℕ) (k : ℕ) (next : List ℕ → Run) → ((out' : List ℕ) → k + 1 ≤ (next out').0) →
     k ≤ (on_peeked a out k next).0
-on_peeked_lem (Peeked.Payload n) out k next more = let h = more out in omega (arith, h)
-on_peeked_lem Peeked.Empty out k next more = omega arith
-on_peeked_lem (Peeked.Refused r) out k next more = omega arith
+on_peeked_lem (Ok (Some n)) out k next more = let h = more out in omega (arith, h)
+on_peeked_lem (Ok None) out k next more = omega arith
+on_peeked_lem (Err r) out k next more = omega arith
 
-on_stepped_lem : (a : Iterating.Stepped) (out : List ℕ) (k : ℕ) (next : Cursor → List ℕ → Run) →
+on_stepped_lem : (a : Result (Option Step) Refusal) (out : List ℕ) (k : ℕ) (next : Cursor → List ℕ → Run) →
     ((c : Cursor) (out' : List ℕ) → k + 1 ≤ (next c out').0) → k ≤ (on_stepped a out k next).0
-on_stepped_lem (Stepped.Element t) out k next more = let h = more t.next out in omega (arith, h)
-on_stepped_lem Stepped.End out k next more = omega arith
-on_stepped_lem (Stepped.Refused r) out k next more = omega arith
+on_stepped_lem (Ok (Some t)) out k next more = let h = more t.next out in omega (arith, h)
+on_stepped_lem (Ok None) out k next more = omega arith
+on_stepped_lem (Err r) out k next more = omega arith
 
 -- so a run has at least what it starts from
-run_counts : (op : QueueFile → List ℕ → Changed × List ℕ) (left k : ℕ) (q : QueueFile) (img : List ℕ) → k ≤ (run_from op left k q img).0
+run_counts : (op : QueueFile → List ℕ → Result QueueFile Refusal × List ℕ) (left k : ℕ) (q : QueueFile) (img : List ℕ) → k ≤ (run_from op left k q img).0
 unfolding run_from
 run_counts op zero k q img = omega arith
 run_counts op (suc left) k q img = on_changed_lem (op q img).0 (op q img).1 k (run_from op left (k + 1)) (run_counts op left (k + 1))
 
 -- if none was, the first was refused, and a refused one keeps the image
-run_keeps : (op : QueueFile → List ℕ → Changed × List ℕ) → ((q : QueueFile) (img : List ℕ) → Kept img (op q img)) →
+run_keeps : (op : QueueFile → List ℕ → Result QueueFile Refusal × List ℕ) → ((q : QueueFile) (img : List ℕ) → Kept img (op q img)) →
     (n : ℕ) (q : QueueFile) (img s : List ℕ) → ◌≡◌ {A = Run} (0, s) (run_from op n 0 q img) → s ≡ img
 unfolding run_from
 run_keeps op k zero q img s p = ap (λ (a : Run). a.1) p
 run_keeps op k (suc n) q img s p = on (op q img).0 refl p
   where
-    on : (a : Changed) → a ≡ (op q img).0 → ◌≡◌ {A = Run} (0, s) (on_changed a (op q img).1 0 (run_from op n 1)) → s ≡ img
-    on (Queue q') e p' =
+    on : (a : Result QueueFile Refusal) → a ≡ (op q img).0 → ◌≡◌ {A = Run} (0, s) (on_changed a (op q img).1 0 (run_from op n 1)) → s ≡ img
+    on (Ok q') e p' =
         let h = run_counts op n 1 q' (op q img).1 in
         let z : 0 ≡ (run_from op n 1 q' (op q img).1).0 = ap (λ (a : Run). a.0) p' in
         absurd (omega (arith, h, z))
-    on (Refused r) e p' =
-        ap (λ (a : Run). a.1) p' ∙ k q img (op q img).1 r (ap (λ (a : Changed). (a, (op q img).1)) (sym e))
+    on (Err r) e p' =
+        ap (λ (a : Run). a.1) p' ∙ k q img (op q img).1 r (ap (λ (a : Result QueueFile Refusal). (a, (op q img).1)) (sym e))
 
 peeks_count : (q : QueueFile) (img : List ℕ) (left k : ℕ) (out : List ℕ) → k ≤ (peeks_from q img left k out).0
 unfolding peeks_from
@@ -210,13 +194,13 @@ unfolding peeks_from
 peeks_keep q img zero out s p = ap (λ (a : Run). a.1) p
 peeks_keep q img (suc n) out s p = on (judge_peek q img (length out)) p
   where
-    on : (a : Peek.Peeked) → ◌≡◌ {A = Run} (0, s) (on_peeked a (peeked_output a (payload_at img q.file_len q.first) out) 0 (peeks_from q img n 1)) → s ≡ out
-    on (Peeked.Payload m) p' =
+    on : (a : Result (Option ℕ) Refusal) → ◌≡◌ {A = Run} (0, s) (on_peeked a (peeked_output a (payload_at img q.file_len q.first) out) 0 (peeks_from q img n 1)) → s ≡ out
+    on (Ok (Some m)) p' =
         let h = peeks_count q img n 1 (put_at out 0 (payload_at img q.file_len q.first)) in
         let z = ap (λ (a : Run). a.0) p' in
         absurd (omega (arith, h, z))
-    on Peeked.Empty p' = ap (λ (a : Run). a.1) p'
-    on (Peeked.Refused r) p' = ap (λ (a : Run). a.1) p'
+    on (Ok None) p' = ap (λ (a : Run). a.1) p'
+    on (Err r) p' = ap (λ (a : Run). a.1) p'
 
 steps_count : (q : QueueFile) (img : List ℕ) (left k : ℕ) (c : Cursor) (out : List ℕ) → k ≤ (steps_from q img left k c out).0
 unfolding steps_from
@@ -229,20 +213,20 @@ unfolding steps_from
 steps_keep q img zero c out s p = ap (λ (a : Run). a.1) p
 steps_keep q img (suc n) c out s p = on (judge_step q img c (length out)) p
   where
-    on : (a : Iterating.Stepped) → ◌≡◌ {A = Run} (0, s) (on_stepped a (stepped_output a img q.file_len out) 0 (steps_from q img n 1)) → s ≡ out
-    on (Stepped.Element t) p' =
-        let h = steps_count q img n 1 t.next (stepped_output (Stepped.Element t) img q.file_len out) in
+    on : (a : Result (Option Step) Refusal) → ◌≡◌ {A = Run} (0, s) (on_stepped a (stepped_output a img q.file_len out) 0 (steps_from q img n 1)) → s ≡ out
+    on (Ok (Some t)) p' =
+        let h = steps_count q img n 1 t.next (stepped_output (Ok (Some t)) img q.file_len out) in
         let z = ap (λ (a : Run). a.0) p' in
         absurd (omega (arith, h, z))
-    on Stepped.End p' = ap (λ (a : Run). a.1) p'
-    on (Stepped.Refused r) p' = ap (λ (a : Run). a.1) p'
+    on (Ok None) p' = ap (λ (a : Run). a.1) p'
+    on (Err r) p' = ap (λ (a : Run). a.1) p'
 
-opened_keeps : (o : Opening.Opened) (bytes s : List ℕ) (next : QueueFile → Run) → ((q : QueueFile) → ◌≡◌ {A = Run} (0, s) (next q) → s ≡ bytes) →
+opened_keeps : (o : Result QueueFile Refusal) (bytes s : List ℕ) (next : QueueFile → Run) → ((q : QueueFile) → ◌≡◌ {A = Run} (0, s) (next q) → s ≡ bytes) →
     ◌≡◌ {A = Run} (0, s) (on_opened o bytes next) → s ≡ bytes
-opened_keeps (Opened.Queue q) bytes s next k p = k q p
-opened_keeps (Opened.Refused r) bytes s next k p = ap (λ (a : Run). a.1) p
+opened_keeps (Ok q) bytes s next k p = k q p
+opened_keeps (Err r) bytes s next k p = ap (λ (a : Run). a.1) p
 
-runs_keep : (op : QueueFile → List ℕ → Changed × List ℕ) → ((q : QueueFile) (img : List ℕ) → Kept img (op q img)) →
+runs_keep : (op : QueueFile → List ℕ → Result QueueFile Refusal × List ℕ) → ((q : QueueFile) (img : List ℕ) → Kept img (op q img)) →
     (n real : ℕ) (img s : List ℕ) → ◌≡◌ {A = Run} (0, s) (run_of op n real img) → s ≡ img
 runs_keep op k n real img s = opened_keeps (opened img real) img s (λ q. run_from op n 0 q img) (λ q. run_keeps op k n q img s)
 

@@ -15,12 +15,9 @@ use Rattle.ring.proofs.Places.{turn_high}
 use Rattle.ring.proofs.Reading.{read_ext}
 use Rattle.ring.proofs.Writing.{read_write, write_mod}
 use Rattle.ring.proofs.Relocating.{read_relocated}
-use Rattle.format.specs.Element.{encode_header, header_bytes, parse_header, check_footer}
-use Rattle.format.specs.declared.element.EncodedHeader.{EncodedHeader}
+use Rattle.format.specs.Element.{stored_header, header_bytes, parse_header, check_footer}
 use Rattle.format.specs.declared.element.V2ElementHeader.{V2ElementHeader}
-use Rattle.format.specs.declared.element.ParsedHeader.{ParsedHeader}
-use Rattle.format.specs.declared.element.ParsedHeader.TheVariants.{Header}
-use Rattle.format.proofs.ElementLaws.{length_encoded_header, header_granted, header_parse_encode}
+use Rattle.format.proofs.ElementLaws.{length_stored_header, header_stored, header_parse_encode}
 use Rattle.queue.specs.Element.{capacity}
 use Rattle.queue.specs.declared.state.QueueFile.{QueueFile}
 use Rattle.writing.specs.Growth.{end_of_last}
@@ -29,6 +26,8 @@ use Rattle.writing.proofs.Choices.{either}
 use Rattle.writing.proofs.RelinkLaws.{length-relinked}
 use Rattle.assurance.specs.Growth.{moves, grown_link}
 use Rattle.assurance.proofs.Chain.{Elem, header_of, span, total, last_of, last_from, Rising, Backs, header_in, header_there, header_known, Holds, Chain, Agree, holds_frame, chain_frame, agree_behind, agree_ahead}
+use Rattle.std.specs.Prelude.{Result, Ok}
+use Rattle.refusal.specs.declared.Refusal.{Refusal}
 
 -- ---- the elements, once they are told of in the longer file
 
@@ -149,7 +148,7 @@ module _ (q : QueueFile) (n : ℕ) (m : moves q n ≡ true) where
   -- ---- one header anew, in the longer ring
 
   abbrev anew : V2ElementHeader → List ℕ
-  anew h = (encode_header h.seq (h.prev_pos + size) h.payload_len).bytes
+  anew h = stored_header h.seq (h.prev_pos + size) h.payload_len
 
   abbrev one : List ℕ → ℕ → V2ElementHeader → List ℕ
   one img p h = relinked_header n old end img p h
@@ -159,14 +158,14 @@ module _ (q : QueueFile) (n : ℕ) (m : moves q n ≡ true) where
   unfolding relinked_header
   one-behind img p h r k a b =
       either (λ (i : List ℕ). Agree img new i new r k) (names_moved end h.prev_pos) _ _
-      (λ _. agree_behind img new p (anew h) r k (omega (arith, length_encoded_header h.seq (h.prev_pos + size) h.payload_len, a)) b)
+      (λ _. agree_behind img new p (anew h) r k (omega (arith, length_stored_header h.seq (h.prev_pos + size) h.payload_len, a)) b)
       (λ s j x y. refl)
 
   one_ahead : (img : List ℕ) (p : ℕ) (h : V2ElementHeader) (r k : ℕ) → r + k ≤ p → p + 28 ≤ r + new → Agree img new (one img p h) new r k
   unfolding relinked_header
   one_ahead img p h r k a b =
       either (λ (i : List ℕ). Agree img new i new r k) (names_moved end h.prev_pos) _ _
-      (λ _. agree_ahead img new p (anew h) r k a (omega (arith, length_encoded_header h.seq (h.prev_pos + size) h.payload_len, b)))
+      (λ _. agree_ahead img new p (anew h) r k a (omega (arith, length_stored_header h.seq (h.prev_pos + size) h.payload_len, b)))
       (λ s j x y. refl)
 
   -- a step of the walk goes from one unrolled place to the next
@@ -178,7 +177,7 @@ module _ (q : QueueFile) (n : ℕ) (m : moves q n ≡ true) where
       → relink_from n old end (suc k) img (p % new) ≡ relink_from n old end k (one img p (header_of e)) ((p + span e) % new)
   unfolding relink_from
   walk_step_lem k img p e h =
-      ap (λ (d : ParsedHeader). relink_step n old end img (p % new) d (relink_from n old end k))
+      ap (λ (d : Result V2ElementHeader Refusal). relink_step n old end img (p % new) d (relink_from n old end k))
       (header_there img n p (p % new) e refl h)
       ∙ rw (one_mod img p (header_of e), mod-add-mod p new (span e))
 
@@ -209,11 +208,11 @@ module _ (q : QueueFile) (n : ℕ) (m : moves q n ≡ true) where
   module _ (roomy : 8192 + end + size < 2 ^ 64) where
     anew-holds : (img : List ℕ) (p : ℕ) (e : Elem) → 8192 + new ≤ length img → e.seq < 2 ^ 64 → Holds img new p e → e.back < 8192 + end
         → header_in new (ring_write 8192 new img p (anew (header_of e))) p
-        ≡ Header (record { payload_len = length e.payload; seq = e.seq; prev_pos = e.back + size })
+        ≡ Ok (record { payload_len = length e.payload; seq = e.seq; prev_pos = e.back + size })
     unfolding header_in
     anew-holds img p e l s h b =
         let k = header_known img new p (header_of e) h.header in
-        let g = ap (λ (r : EncodedHeader). r.bytes) (header_granted e.seq (e.back + size) (length e.payload) k.small) in
+        let g = header_stored e.seq (e.back + size) (length e.payload) k.small in
         rw (g)
         (ap (λ (s : List ℕ). parse_header s new)
         (read_write 8192 new img p (header_bytes e.seq (e.back + size) (length e.payload)) l (omega (arith, k.fits)))
@@ -226,7 +225,7 @@ module _ (q : QueueFile) (n : ℕ) (m : moves q n ≡ true) where
     one_by true img p e l s f h t =
         let a : Agree img new (ring_write 8192 new img p (anew (header_of e))) new (p + 28) (length e.payload + 16) =
         agree_behind img new p (anew (header_of e)) (p + 28) (length e.payload + 16)
-        (omega (arith, length_encoded_header e.seq (e.back + size) (length e.payload))) (omega (arith, f)) in
+        (omega (arith, length_stored_header e.seq (e.back + size) (length e.payload))) (omega (arith, f)) in
         record {
           header = anew-holds img p e l s h (names_low e.back t);
           payload = a (p + 28) (length e.payload) (omega arith) (omega arith) ∙ h.payload;

@@ -8,9 +8,7 @@ use native.Mathlib.Omega.{arith}
 use lib.ListN.{take, drop, replicate, length-replicate, take-append-drop}
 use Rattle.ring.specs.Ring.{ring_distance, ring_erase}
 use Rattle.ring.proofs.Writing.{length_write}
-use Rattle.format.specs.declared.element.ParsedHeader.{ParsedHeader}
-use Rattle.format.specs.declared.element.ParsedHeader.TheVariants.{Header}
-use Rattle.queue.specs.Answers.{on_header}
+use Rattle.refusal.specs.Answer.{on_ok}
 use Rattle.queue.specs.Element.{element_here, capacity, header_at}
 use Rattle.queue.specs.declared.element.Element.{Element}
 use Rattle.queue.specs.declared.state.QueueFile.{QueueFile}
@@ -18,13 +16,15 @@ use Rattle.writing.specs.Work.{Work, with_elements}
 use Rattle.writing.specs.Commit.{committed}
 use Rattle.writing.specs.Growth.{behind}
 use Rattle.writing.specs.Removal.{skip_from, dropped, removed_zeroed}
-use Rattle.writing.specs.declared.removal.Skipped.TheVariants as Skipped
 use Rattle.writing.proofs.Choices.{either}
 use Rattle.assurance.proofs.Chain.{Elem, span, total, header_of, header_there, chain_frame, agree_behind}
 use Rattle.assurance.proofs.ChainLists.{total-append, chain_same, backs_same, last_same}
 use Rattle.assurance.proofs.Laid.{Laid, laid_with, distance_unrolled}
 use Rattle.assurance.proofs.CommitLaid.{committed_laid}
 use Rattle.assurance.proofs.AppendLaid.{LaidWork}
+use Rattle.std.specs.Prelude.{Result, Ok, Err}
+use Rattle.refusal.specs.declared.Refusal.{Refusal}
+use Rattle.format.specs.declared.element.V2ElementHeader.{V2ElementHeader}
 
 -- ---- one element on
 
@@ -39,13 +39,13 @@ module _ (img : List ℕ) (q : QueueFile) (e f : Elem) (es : List Elem) (k : Lai
   second-place : second.pos ≡ (q.first.pos + span e) % size
   second-place = rw k.first_len
 
-  second-header : header_at img q.file_len second.pos ≡ Header (header_of f)
+  second-header : header_at img q.file_len second.pos ≡ Ok (header_of f)
   second-header = header_there img q.file_len (q.first.pos + span e) second.pos f second-place k.holds.1.0
 
   skip_on : (n : ℕ) → skip_from img q.file_len (suc n) q.first ≡ skip_from img q.file_len n second
   unfolding skip_from
   skip_on n =
-      ap (λ (h : ParsedHeader). on_header Skipped.Refused h (λ x. skip_from img q.file_len n (element_here second.pos x)))
+      ap (λ (h : Result V2ElementHeader Refusal). on_ok Err h (λ x. skip_from img q.file_len n (element_here second.pos x)))
       second-header
 
   dropped_laid : Laid img (dropped q 1 second) f es
@@ -82,7 +82,7 @@ pub record Skip (img : List ℕ) (q : QueueFile) (e : Elem) (es : List Elem) (n 
   pub to : Element
   pub f : Elem
   pub fs : List Elem
-  pub walked : skip_from img q.file_len n q.first ≡ Skipped.To to
+  pub walked : skip_from img q.file_len n q.first ≡ Ok to
   pub rest : drop n (e ∷ es) ≡ f ∷ fs
   pub place : to.pos ≡ (q.first.pos + total (take n (e ∷ es))) % capacity q.file_len
   pub laid : Laid img (dropped q n to) f fs

@@ -25,11 +25,9 @@ use Rattle.writing.specs.Adding.{appended, judge_add, add_of}
 use Rattle.writing.specs.Removal.{skip_from, dropped, removed_zeroed, remove_to, remove_some, remove_of}
 use Rattle.writing.specs.Clearing.{emptied, ring_zeroed, cut, cut_state, cleared, clear_of}
 use Rattle.writing.specs.Fresh.{fresh_queue, fresh_of}
-use Rattle.writing.specs.declared.answer.Changed.{Changed}
-use Rattle.writing.specs.declared.answer.Changed.TheVariants.{Queue}
 use Rattle.writing.proofs.Choices.{left_out}
 use Rattle.writing.proofs.CommitLaws.{commit_sound}
-use Rattle.writing.proofs.PlanLaws.{checked_planned, expansion_sound, add_sound}
+use Rattle.writing.proofs.PlanLaws.{expansion_sound, add_planned}
 use Rattle.assurance.specs.Linked.{LinkedOrEmpty}
 use Rattle.assurance.specs.Reopening.{Stored, Current, StoredReopens, Committed, FreshIsCommitted, CommitIsCommitted, AddIsCommitted, RemoveIsCommitted, ClearIsCommitted, ClearStaysCurrent, GrowthStaysCurrent}
 use Rattle.assurance.proofs.Bridge.{linked_laid}
@@ -41,6 +39,7 @@ use Rattle.assurance.proofs.Answered.{not_kept, done_work, verdict_work, count_w
 use Rattle.assurance.proofs.Changes.{commit_keeps_queue, remove_keeps_queue, clear_empties, fresh_is_empty}
 use Rattle.assurance.proofs.Adding.{add_keeps_queue}
 use Rattle.assurance.proofs.Keeping.{UpToDate, Behind, Long, grown-current, appended-current, removed_behind, zeroed-behind, cut-format, not_cut}
+use Rattle.std.specs.Prelude.{Result, Ok}
 
 -- ---- what is stored is given back
 
@@ -100,8 +99,8 @@ pub growth_stays_current : GrowthStaysCurrent
 unfolding expand_of
 growth_stays_current img img' q q' span c e =
     let j = judge_expansion q (length img) span in
-    let d = count_work img q' img' (check_growth q img j) (λ n. grown n (q, img)) e in
-    let s = expansion_sound q (length img) span d.bytes (checked_planned q img j d.bytes d.count) in
+    let d = count_work img q' img' j (check_growth q img) (λ n. grown n (q, img)) e in
+    let s = expansion_sound q (length img) span d.bytes d.count in
     subst UpToDate d.work (grown-current d.bytes (q, img) (sound-long q (length img) s) c)
 
 -- ---- add
@@ -111,15 +110,15 @@ unfolding add_of
 add_is_committed img img' payload q q' l c e =
     let j = judge_add q (length img) (length payload) in
     let step : ℕ → Work = λ n. appended payload (grown n (q, img)) in
-    let d = count_work img q' img' (check_growth q img j) (λ n. committed (step n)) e in
-    let s = add_sound q (length img) (length payload) d.bytes (checked_planned q img j d.bytes d.count) in
+    let d = count_work img q' img' j (check_growth q img) (λ n. committed (step n)) e in
+    let s = (add_planned q (length img) (length payload) d.bytes d.count).sound in
     after_commit (step d.bytes) (q', img') (subst (Behind (committed (step d.bytes))) d.work (at_once _))
     (inl (add_keeps_queue img img' payload q q' l e).0)
     (appended-current payload (grown d.bytes (q, img)) (grown-current d.bytes (q, img) (sound-long q (length img) s) c))
 
 -- ---- remove
 
-removed_to : (q : QueueFile) (n : ℕ) (img : List ℕ) (e : Element) (q' : QueueFile) (img' : List ℕ) → remove_to q n img e ≡ (Queue q', img') →
+removed_to : (q : QueueFile) (n : ℕ) (img : List ℕ) (e : Element) (q' : QueueFile) (img' : List ℕ) → remove_to q n img e ≡ (Ok q', img') →
     Behind (committed (dropped q n e, img)) (q', img')
 unfolding remove_to
 removed_to q n img e q' img' h =
@@ -128,7 +127,7 @@ removed_to q n img e q' img' h =
     (removed_behind q.first.pos e.pos w)
 
 -- some are removed, and some are left
-removed_some : (q : QueueFile) (n : ℕ) (img : List ℕ) (a : Changed × List ℕ) → 1 ≤ n → n < q.elem_cnt →
+removed_some : (q : QueueFile) (n : ℕ) (img : List ℕ) (a : Result QueueFile Refusal × List ℕ) → 1 ≤ n → n < q.elem_cnt →
     ((r : Refusal) → kept img r ≡ a → ⊥) → remove_of q n img ≡ a → remove_some q n img ≡ a
 unfolding remove_of
 removed_some q n img a h l k e =
@@ -141,7 +140,7 @@ removed_some q n img a h l k e =
 pub remove_is_committed : RemoveIsCommitted
 unfolding remove_some
 remove_is_committed img img' q q' n l c h k e =
-    let some = removed_some q n img (Queue q', img') h k (not_kept img q' img') e in
+    let some = removed_some q n img (Ok q', img') h k (not_kept img q' img') e in
     let d = skip_work img q' img' (skip_from img q.file_len n q.first) (remove_to q n img) some in
     after_commit (dropped q n d.element, img) (q', img') (removed_to q n img d.element q' img' d.answer)
     (remove_keeps_queue img img' q q' n l e).whole c
@@ -176,9 +175,9 @@ clear_is_committed img img' q q' c h e =
 pub fresh_is_committed : FreshIsCommitted
 unfolding fresh_of
 fresh_is_committed img img' n settings q' e =
-    let a = granted _ _ _ (Queue q', img') (not_kept img q' img' _) e in
-    let b = granted _ _ _ (Queue q', img') (not_kept img q' img' _) a.1 in
-    let g = granted _ _ _ (Queue q', img') (not_kept img q' img' _) b.1 in
+    let a = granted _ _ _ (Ok q', img') (not_kept img q' img' _) e in
+    let b = granted _ _ _ (Ok q', img') (not_kept img q' img' _) a.1 in
+    let g = granted _ _ _ (Ok q', img') (not_kept img q' img' _) b.1 in
     let low : 8192 ≤ n = leb-true _ _ a.0 in
     let room : n ≤ length img = leb-true _ _ g.0 in
     let zeros : List ℕ = put_at img 0 (replicate n 0) in

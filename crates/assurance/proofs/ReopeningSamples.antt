@@ -1,27 +1,26 @@
 -- The run is seen to be committed at each of its steps, so that what the theorems on opening ask for is there from the fresh file on; and
 -- each of its images opens to its state. But after a clear that cuts the file, which the theorem leaves out, opening is refused (12).
 -- Assumes nothing.
+use Rattle.refusal.specs.declared.Refusal.TheVariants.{NotASlot, SlotTruncated}
+use Rattle.refusal.proofs.Laws.{refused}
 use mathlib.Core.Path.{◌≡◌, refl, sym, ◌∙◌}
 use mathlib.Core.Logic.{inl, inr}
 use mathlib.Core.List.{[]}
 use native.Mathlib.Omega.{arith}
 use lib.ListN.{take, drop, replicate}
 use Rattle.refusal.specs.Demand.{demand}
-use Rattle.refusal.specs.Table.{plain}
 use Rattle.crc.specs.Crc.{shift, shifts, byte_in, bytes_in, crc_of}
 use Rattle.header.specs.Slot.{parse_slot}
-use Rattle.header.specs.declared.ParsedSlot.TheVariants as Parsed
 use Rattle.queue.specs.Opening.{tried_slot, checked_state, open_state, open_queue}
-use Rattle.queue.specs.declared.opening.Opened.TheVariants as Opened
 use Rattle.assurance.specs.Reopening.{Current, Committed}
 use Rattle.assurance.specs.ChangeSamples.{settings, none, one, both, other, again, empty, small, uncut, cut, cut_again, none_image, one_image, both_image, other_image, again_image, empty_image, cut_image, cut_again_image}
 use Rattle.assurance.specs.GrowthSamples.{wrapping, wrapping_image, straight, straight_image}
 use Rattle.assurance.proofs.ChangeSamples.{add_one, add_other, remove_one, commit_again, clear_all, clear_cuts, commit_cut, empty-none, linked-one, linked-both, linked-other}
 use Rattle.assurance.proofs.GrowthSamples.{wrapping_grows}
-use Rattle.assurance.proofs.Slots.{no_slot}
 use Rattle.assurance.proofs.Changes.{clear_empties}
 use Rattle.assurance.proofs.Reopening.{fresh_is_committed, commit_is_committed, add_is_committed, remove_is_committed, clear_stays_current, clear_is_committed, growth_stays_current}
 use Rattle.assurance.proofs.FreshSample.{fresh_none}
+use Rattle.std.specs.Prelude.{Ok, Err}
 
 -- ---- from step to step
 
@@ -46,24 +45,24 @@ committed-empty = clear_is_committed other_image empty_image other empty committ
 
 -- ---- each opens
 
-pub opens_one : open_queue one_image 8280 settings ≡ Opened.Queue one
+pub opens_one : open_queue one_image 8280 settings ≡ Ok one
 opens_one = committed-one.reopens
 
-pub opens_both : open_queue both_image 8280 settings ≡ Opened.Queue both
+pub opens_both : open_queue both_image 8280 settings ≡ Ok both
 opens_both = committed-both.reopens
 
-pub opens_other : open_queue other_image 8280 settings ≡ Opened.Queue other
+pub opens_other : open_queue other_image 8280 settings ≡ Ok other
 opens_other = committed-other.reopens
 
-pub opens_again : open_queue again_image 8280 settings ≡ Opened.Queue again
+pub opens_again : open_queue again_image 8280 settings ≡ Ok again
 opens_again = committed-again.reopens
 
-pub opens_empty : open_queue empty_image 8280 settings ≡ Opened.Queue empty
+pub opens_empty : open_queue empty_image 8280 settings ≡ Ok empty
 opens_empty = committed-empty.reopens
 
 -- ---- where the file was cut, opening waits for the next commit
 
-pub cut_is_refused : open_queue cut_image 8192 small ≡ Opened.Refused (plain 12)
+pub cut_is_refused : open_queue cut_image 8192 small ≡ Err SlotTruncated
 unfolding open_queue open_state tried_slot checked_state demand shift shifts byte_in bytes_in crc_of
 cut_is_refused = refl
 
@@ -74,12 +73,12 @@ cut-then-committed =
 
 -- ---- growth keeps what the next commit needs: of the queue that wraps both slots are zeros before
 
-no_slots : parse_slot (take 56 (drop 0 wrapping_image)) ≡ Parsed.Refused (plain 31)
+no_slots : parse_slot (take 56 (drop 0 wrapping_image)) ≡ Err NotASlot
 unfolding demand wrapping_image
 no_slots = refl
 
 wrapping-current : Current wrapping_image wrapping
-wrapping-current d e = absurd (no_slot (sym no_slots ∙ e))
+wrapping-current d e = absurd (refused (sym no_slots ∙ e))
 
 pub straight-current : Current straight_image straight
 straight-current = growth_stays_current wrapping_image straight_image wrapping straight 9 wrapping-current wrapping_grows

@@ -1,4 +1,5 @@
 -- What a commit stores is elected: a valid slot, later than the other, and possible where the state is sound. Assumes nothing.
+use Rattle.refusal.proofs.Laws.{refused, pass, stop, granted, ne_neb}
 use mathlib.Core.Path.{◌≡◌, refl, sym, ap, subst, ◌∙◌}
 use mathlib.Core.Bool.{Bool, true, cond}
 use mathlib.Core.List.{List}
@@ -10,9 +11,6 @@ use lib.Seq.{get_or-take, get_or-drop, length-sets}
 use lib.Dec.{eqb}
 use borrow.Author.Tests.{le-leb, lt-leb, lt-ltb, eq-eqb, ne_eqb}
 use Rattle.refusal.specs.declared.Refusal.{Refusal}
-use Rattle.refusal.specs.declared.Verdict as Answer
-use Rattle.refusal.specs.declared.Verdict.TheVariants as Verdict
-use Rattle.refusal.proofs.Laws.{pass, stop, granted, ne_neb}
 use Rattle.wire.specs.Wire.{word, put_at}
 use Rattle.wire.proofs.Numbers.{be_val-be, bytes_at_part, starts_with-take}
 use Rattle.wire.proofs.Stores.{put_at-before, put_at-after, bytes_at-put_at}
@@ -20,13 +18,9 @@ use Rattle.header.specs.Slot.{other_slot, slot_offset, slot_start, slot_bytes, p
 use Rattle.header.specs.declared.HeaderSlot.{HeaderSlot}
 use Rattle.header.specs.declared.HeaderSlot.TheVariants.{A, B}
 use Rattle.header.specs.declared.SlotData.{SlotData}
-use Rattle.header.specs.declared.ParsedSlot.{ParsedSlot}
-use Rattle.header.specs.declared.ParsedSlot.TheVariants.{Slot, Refused}
 use Rattle.header.proofs.RoundTrip.{length-slot_bytes, bytes-slot_bytes, parse_encode, parsed_fits, parsed_bytes}
 use Rattle.format.specs.Slots.{holds, elect_slot, check_empty, check_pointers, check_slot}
-use Rattle.format.specs.declared.slots.Elected as Election
-use Rattle.format.specs.declared.slots.Elected.TheVariants as Elected
-use Rattle.queue.specs.Answers.{on_verdict}
+use Rattle.refusal.specs.Answer.{on_verdict}
 use Rattle.queue.specs.State.{sound}
 use Rattle.queue.specs.Opening.{tried_slot, checked_state, open_state}
 use Rattle.queue.specs.declared.element.Element.{Element}
@@ -38,6 +32,8 @@ use Rattle.writing.proofs.CommitLaws.{pointer_none, pointer-some}
 use Rattle.assurance.specs.Reopening.{Stored, Current}
 use Rattle.assurance.proofs.CommitLaid.{length-slot_stored}
 use Rattle.assurance.proofs.Fronts.{slot_part, part_same, Upto}
+use Rattle.std.specs.Prelude.{Result, Ok, Err}
+use Rattle.format.specs.declared.slots.V2OpenState.{V2OpenState}
 
 abbrev active : QueueFile → HeaderSlot
 active q = q.format.active_slot
@@ -76,7 +72,7 @@ same_generation a b h k e =
     ∙ ap (λ (s : List ℕ). word 8 s 36) e
     ∙ be_val-be 8 b.generation (omega (arith, k))
 
-parsed_generation : (a d : SlotData) → parse_slot (slot_bytes a) ≡ Slot d → Dec (a.generation < 2 ^ 63) → d.generation ≤ a.generation
+parsed_generation : (a d : SlotData) → parse_slot (slot_bytes a) ≡ Ok d → Dec (a.generation < 2 ^ 63) → d.generation ≤ a.generation
 parsed_generation a d e (yes y) =
     let s = slot_bytes a in
     omega (arith, same_generation a d y (parsed_fits s d e).generation (parsed_bytes s d (bytes-slot_bytes a) e))
@@ -87,19 +83,16 @@ pub stored-current : (q : QueueFile) (img : List ℕ) → 8192 ≤ length img �
 stored-current q img h d e =
     parsed_generation (slot_of q) d (ap parse_slot (sym (slot_there q img h)) ∙ e) (dec_lt q.format.generation (2 ^ 63))
 
-pub no_slot : {r : Refusal} {d : SlotData} → Refused r ≡ Slot d → ⊥
-no_slot e = let z : ◌≡◌ {A = ℕ} 0 1 = cc in omega arith
-
 -- every valid slot that p is has a generation before g
-abbrev pub Before : ParsedSlot → ℕ → Type 0
-Before p g = (d : SlotData) → p ≡ Slot d → d.generation < g
+abbrev pub Before : Result SlotData Refusal → ℕ → Type 0
+Before p g = (d : SlotData) → p ≡ Ok d → d.generation < g
 
 -- a slot that starts with a zero is not valid
 pub zero_none : (img : List ℕ) (g : ℕ) → get_or img 4096 0 ≡ 0 → Before (parse_slot (slot_part img B)) g
 zero_none img g z d e =
     let s = slot_part img B in
-    let a = granted _ _ _ _ no_slot e in
-    let b = granted _ _ _ _ no_slot a.1 in
+    let a = granted _ _ _ _ refused e in
+    let b = granted _ _ _ _ refused a.1 in
     let magic : get_or s 0 0 ≡ 0x51 =
     sym (get_or-take 8 s 0 0 (omega arith)) ∙ ap (λ (l : List ℕ). get_or l 0 0) (starts_with-take s slot_start b.0) in
     let there : get_or s 0 0 ≡ 0 = get_or-take 56 (drop 4096 img) 0 0 (omega arith) ∙ get_or-drop 4096 img 0 0 ∙ z in
@@ -107,16 +100,16 @@ zero_none img g z d e =
 
 -- ---- election
 
-elect_first : (d : SlotData) (p : ParsedSlot) → Before p d.generation → elect_slot (Slot d) p ≡ holds A d
-elect_first d (Slot b) h = pass _ _ _ (le-leb b.generation d.generation (omega (arith, h b refl)))
-elect_first d (Refused r) h = refl
+elect_first : (d : SlotData) (p : Result SlotData Refusal) → Before p d.generation → elect_slot (Ok d) p ≡ holds A d
+elect_first d (Ok b) h = pass _ _ _ (le-leb b.generation d.generation (omega (arith, h b refl)))
+elect_first d (Err r) h = refl
 
-elect_second : (d : SlotData) (p : ParsedSlot) → Before p d.generation → elect_slot p (Slot d) ≡ holds B d
-elect_second d (Slot a) h = stop _ _ _ (lt-leb d.generation a.generation (h a refl))
-elect_second d (Refused r) h = refl
+elect_second : (d : SlotData) (p : Result SlotData Refusal) → Before p d.generation → elect_slot p (Ok d) ≡ holds B d
+elect_second d (Ok a) h = stop _ _ _ (lt-leb d.generation a.generation (h a refl))
+elect_second d (Err r) h = refl
 
 -- a slot that is later than the other is elected
-elected : (which : HeaderSlot) (img : List ℕ) (real : ℕ) (d : SlotData) → tried_slot img real which ≡ Slot d →
+elected : (which : HeaderSlot) (img : List ℕ) (real : ℕ) (d : SlotData) → tried_slot img real which ≡ Ok d →
     Before (tried_slot img real (other_slot which)) d.generation → elect_slot (tried_slot img real A) (tried_slot img real B) ≡ holds which d
 elected A img real d e h = rw e (elect_first d (tried_slot img real B) h)
 elected B img real d e h = rw e (elect_second d (tried_slot img real A) h)
@@ -164,16 +157,16 @@ module _ (q : QueueFile) (len : ℕ) (s : sound q len ≡ true) where
   abbrev last : ℕ
   last = pointer q.last
 
-  abbrev checked : Bool → Answer.Verdict
+  abbrev checked : Bool → Result (Unit {0}) Refusal
   checked empty = cond empty (check_empty first last) (check_pointers first last q.file_len)
 
-  none_granted : q.elem_cnt ≡ 0 → checked (eqb q.elem_cnt 0) ≡ Verdict.Granted
+  none_granted : q.elem_cnt ≡ 0 → checked (eqb q.elem_cnt 0) ≡ Ok tt
   none_granted z =
       ap checked (eq-eqb q.elem_cnt 0 z)
       ∙ pass _ _ _ (eq-eqb first 0 (pointer_none q.elem_cnt q.first z))
       ∙ pass _ _ _ (eq-eqb last 0 (pointer_none q.elem_cnt q.last z))
 
-  some_granted : (q.elem_cnt ≡ 0 → ⊥) → checked (eqb q.elem_cnt 0) ≡ Verdict.Granted
+  some_granted : (q.elem_cnt ≡ 0 → ⊥) → checked (eqb q.elem_cnt 0) ≡ Ok tt
   some_granted m =
       let a = pointer-some q.elem_cnt q.first m in
       let b = pointer-some q.elem_cnt q.last m in
@@ -185,7 +178,7 @@ module _ (q : QueueFile) (len : ℕ) (s : sound q len ≡ true) where
       ∙ pass _ _ _ (le-leb 8192 last (omega (arith, b)))
       ∙ pass _ _ _ (lt-ltb last q.file_len (omega (arith, b, last_in m)))
 
-  slot_granted : check_slot (slot_of q) q.real_len ≡ Verdict.Granted
+  slot_granted : check_slot (slot_of q) q.real_len ≡ Ok tt
   slot_granted =
       let l = sound_lengths_lem q len s in
       pass _ _ _ (le-leb _ _ l.start)
@@ -195,14 +188,14 @@ module _ (q : QueueFile) (len : ℕ) (s : sound q len ≡ true) where
 
   state_checked : checked_state (holds (active q) (slot_of q)) q.real_len ≡ holds (active q) (slot_of q)
   unfolding checked_state
-  state_checked = ap (λ (v : Answer.Verdict). on_verdict Elected.Refused v (holds (active q) (slot_of q))) slot_granted
+  state_checked = ap (λ (v : Result (Unit {0}) Refusal). on_verdict Err v (holds (active q) (slot_of q))) slot_granted
 
 -- ---- what is stored is elected
 
 -- where the other slot holds no generation but those before the state's
 module _ (q : QueueFile) (img : List ℕ) (s : sound q (length img) ≡ true)
     (u : Before (parse_slot (slot_part img (other_slot (active q)))) q.format.generation) where
-  abbrev tried : HeaderSlot → ParsedSlot
+  abbrev tried : HeaderSlot → Result SlotData Refusal
   tried which = tried_slot (slot_stored q img) q.real_len which
 
   tried-long : (which : HeaderSlot) → tried which ≡ parse_slot (slot_part (slot_stored q img) which)
@@ -210,7 +203,7 @@ module _ (q : QueueFile) (img : List ℕ) (s : sound q (length img) ≡ true)
       let l = sound_lengths_lem q (length img) s in
       tried_there (slot_stored q img) q.real_len which (omega (arith, l.start, l.real))
 
-  mine : tried (active q) ≡ Slot (slot_of q)
+  mine : tried (active q) ≡ Ok (slot_of q)
   mine =
       let l = sound_lengths_lem q (length img) s in
       tried-long (active q)
@@ -226,7 +219,7 @@ module _ (q : QueueFile) (img : List ℕ) (s : sound q (length img) ≡ true)
       let l = sound_lengths_lem q (length img) s in
       pass _ _ _ (le-leb q.real_len (length (slot_stored q img)) (omega (arith, l.inside, length-slot_stored q img)))
       ∙ pass _ _ _ (lt-ltb _ _ l.small)
-      ∙ ap (λ (e : Election.Elected). checked_state e q.real_len)
+      ∙ ap (λ (e : Result V2OpenState Refusal). checked_state e q.real_len)
       (elected (active q) (slot_stored q img) q.real_len (slot_of q) mine earlier)
       ∙ state_checked q (length img) s
 

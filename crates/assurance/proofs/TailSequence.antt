@@ -6,22 +6,21 @@ use Prim.Native.Nat.{ℕ, zero, suc, ◌+◌, ◌-◌, ◌<◌, ◌≤◌}
 use native.Mathlib.Omega.{arith}
 use borrow.Author.Tests.{le-leb, eqb-true}
 use Rattle.refusal.proofs.Laws.{pass, keep}
-use Rattle.ring.specs.declared.place.Placed.{Placed}
 use Rattle.format.specs.declared.element.V2ElementHeader.{V2ElementHeader}
-use Rattle.format.specs.declared.element.ParsedHeader.{ParsedHeader}
-use Rattle.format.specs.declared.element.ParsedHeader.TheVariants as Parsed
-use Rattle.queue.specs.Answers.{on_header, on_place}
+use Rattle.refusal.specs.Table.{number_of}
+use Rattle.refusal.specs.Answer.{on_ok, number_or_0}
 use Rattle.queue.specs.Element.{header_at, in_sequence}
-use Rattle.queue.specs.Recover.{at_last, go_back, recover_from, recover_head, recovered_refusal}
-use Rattle.queue.specs.declared.recover.Recovered.{Recovered}
-use Rattle.queue.specs.declared.recover.Recovered.TheVariants.{Refused}
+use Rattle.queue.specs.Recover.{at_last, go_back, recover_from, recover_head}
 use Rattle.queue.proofs.Sound.{not_zero}
 use Rattle.assurance.specs.Recovery.{NeverAboveTailSequence}
+use Rattle.std.specs.Prelude.{Result, Ok, Err}
+use Rattle.queue.specs.declared.element.Element.{Element}
+use Rattle.refusal.specs.declared.Refusal.{Refusal}
 
 -- what reading a header answers: a refusal up to 6, or a header whose sequence is not 0
-abbrev Low : ParsedHeader → Type 0
-Low (Parsed.Refused r) = r.number ≤ 6
-Low (Parsed.Header h) = 0 < h.seq
+abbrev Low : Result V2ElementHeader Refusal → Type 0
+Low (Err r) = number_of r ≤ 6
+Low (Ok h) = 0 < h.seq
 
 low : (img : List ℕ) (file p : ℕ) → Low (header_at img file p)
 unfolding header_at
@@ -34,22 +33,22 @@ low img file p =
     keep Low _ _ _ (omega arith) (λ e6. not_zero _ e4))))))
 
 -- not refused with 21
-abbrev Other : Recovered → Type 0
-Other x = (recovered_refusal x).number ≡ 21 → ⊥
+abbrev Other : Result Element Refusal → Type 0
+Other x = number_or_0 x ≡ 21 → ⊥
 
 -- nor is it where a part of a step is refused, if it is not in what comes next
-heads : (x : ParsedHeader) (seq : ℕ) (next : V2ElementHeader → Recovered) → Low x →
-    ((h : V2ElementHeader) → 0 < h.seq → h.seq ≡ seq → Other (next h)) → Other (on_header Refused (in_sequence seq x) next)
-heads (Parsed.Refused r) seq next l n = λ z. omega arith
-heads (Parsed.Header h) seq next l n =
-    keep (λ (d : ParsedHeader). Other (on_header Refused d next)) _ _ _ (λ z. omega arith) (λ e. n h l (eqb-true _ _ e))
+heads : (x : Result V2ElementHeader Refusal) (seq : ℕ) (next : V2ElementHeader → Result Element Refusal) → Low x →
+    ((h : V2ElementHeader) → 0 < h.seq → h.seq ≡ seq → Other (next h)) → Other (on_ok Err (in_sequence seq x) next)
+heads (Err r) seq next l n = λ z. omega arith
+heads (Ok h) seq next l n =
+    keep (λ (d : Result V2ElementHeader Refusal). Other (on_ok Err d next)) _ _ _ (λ z. omega arith) (λ e. n h l (eqb-true _ _ e))
 
-backs : (link : ℕ) (next : ℕ → Recovered) → ((p : ℕ) → Other (next p)) → Other (go_back link next)
+backs : (link : ℕ) (next : ℕ → Result Element Refusal) → ((p : ℕ) → Other (next p)) → Other (go_back link next)
 backs link next n =
     keep Other _ _ _ (λ z. omega arith) (λ e.
-    keep (λ (d : Placed). Other (on_place Refused d next)) _ _ _ (λ z. omega arith) (λ f. n _))
+    keep (λ (d : Result ℕ Refusal). Other (on_ok Err d next)) _ _ _ (λ z. omega arith) (λ f. n _))
 
-lasts : (left : ℕ) (a b : Recovered) → Other a → Other b → Other (at_last left a b)
+lasts : (left : ℕ) (a b : Result Element Refusal) → Other a → Other b → Other (at_last left a b)
 lasts zero a b s t = s
 lasts (suc left) a b s t = t
 
@@ -67,4 +66,4 @@ all img file tail ts n = keep Other _ _ _ (λ z. omega arith) (λ e. goes img fi
 
 pub never_above_tail_sequence : NeverAboveTailSequence
 never_above_tail_sequence img file tail ts n r q z =
-    all img file tail ts n (ap (λ (x : Recovered). (recovered_refusal x).number) q ∙ z)
+    all img file tail ts n (ap number_or_0 q ∙ z)

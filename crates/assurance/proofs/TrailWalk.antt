@@ -7,23 +7,21 @@ use native.Mathlib.Omega.{arith}
 use lib.ListN.{length}
 use lib.Dec.{leb}
 use borrow.Author.Tests.{eqb-true, leb-true, eq-eqb, le-leb}
-use Rattle.refusal.specs.Table.{unsound}
+use Rattle.refusal.specs.declared.Refusal.TheVariants.{Unsound}
 use Rattle.refusal.specs.Demand.{demand}
-use Rattle.refusal.specs.declared.Verdict as Answer
-use Rattle.refusal.specs.declared.Verdict.TheVariants as Verdict
 use Rattle.refusal.proofs.Laws.{pass, granted, refused}
 use Rattle.ring.specs.Ring.{ring_read}
 use Rattle.ring.proofs.Places.{add_same}
 use Rattle.ring.proofs.Reading.{length_read, read_same}
 use Rattle.format.specs.Element.{element_span, check_footer}
 use Rattle.format.specs.declared.element.V2ElementHeader.{V2ElementHeader}
-use Rattle.format.specs.declared.element.ParsedHeader.{ParsedHeader}
-use Rattle.format.specs.declared.element.ParsedHeader.TheVariants as Parsed
-use Rattle.queue.specs.Answers.{on_header, on_verdict}
+use Rattle.refusal.specs.Answer.{on_ok, on_verdict}
 use Rattle.queue.specs.Element.{capacity, element_here, header_at, in_sequence, payload_at, footer_verdict}
 use Rattle.queue.specs.Strict.{linked_element, strict_element, trail_from}
 use Rattle.queue.proofs.Trail.{Passed, strict_passed}
 use Rattle.assurance.proofs.Chain.{Elem, header_of, span, total, Holds, Chain, Rising, Backs, last_from, header_in, header_in_lem, header_mod, header_there}
+use Rattle.std.specs.Prelude.{Result, Ok, Err}
+use Rattle.refusal.specs.declared.Refusal.{Refusal}
 
 -- ---- a place is as good as any other that is the same in the ring
 
@@ -47,7 +45,7 @@ module _ (img : List ℕ) (file p r : ℕ) (e : Elem) (s : r ≡ p % capacity fi
   unfolding payload_at
   payload_there = there.payload
 
-  pub footer_there : footer_verdict img file (element_here r (header_of e)) ≡ Verdict.Granted
+  pub footer_there : footer_verdict img file (element_here r (header_of e)) ≡ Ok tt
   unfolding footer_verdict payload_at
   footer_there = rw there.payload there.footer
 
@@ -59,8 +57,8 @@ elem_at img size p h =
     record { seq = h.seq; back = h.prev_pos; payload = ring_read 8192 size img (p + 28) h.payload_len }
 
 -- stands there
-elem_holds : (img : List ℕ) (file p : ℕ) (h : V2ElementHeader) → header_at img file p ≡ Parsed.Header h
-    → footer_verdict img file (element_here p h) ≡ Verdict.Granted → Holds img (capacity file) p (elem_at img (capacity file) p h)
+elem_holds : (img : List ℕ) (file p : ℕ) (h : V2ElementHeader) → header_at img file p ≡ Ok h
+    → footer_verdict img file (element_here p h) ≡ Ok tt → Holds img (capacity file) p (elem_at img (capacity file) p h)
 unfolding footer_verdict payload_at
 elem_holds img file p h a f =
     let n : length (ring_read 8192 (capacity file) img (p + 28) h.payload_len) ≡ h.payload_len =
@@ -83,23 +81,23 @@ pub record Found (k : ℕ) (img : List ℕ) (file last seq link spans p : ℕ) :
   pub ends : last_from p e es % capacity file ≡ last
 
 -- one step, and the rest
-record Stepped (img : List ℕ) (file p seq link spans : ℕ) (rest : ℕ → ℕ → ℕ → ℕ → Answer.Verdict) : Type 0 where
+record Stepped (img : List ℕ) (file p seq link spans : ℕ) (rest : ℕ → ℕ → ℕ → ℕ → Result (Unit {0}) Refusal) : Type 0 where
   pub h : V2ElementHeader
   pub passed : Passed img file (p % capacity file) seq link h
   pub fits : spans + element_span h.payload_len ≤ capacity file
   pub on :
       rest ((p + element_span h.payload_len) % capacity file) (seq + 1) (8192 + p % capacity file) (spans + element_span h.payload_len)
-      ≡ Verdict.Granted
+      ≡ Ok tt
 
-stepped_header : (img : List ℕ) (file p seq link spans : ℕ) (rest : ℕ → ℕ → ℕ → ℕ → Answer.Verdict) (d : ParsedHeader)
+stepped_header : (img : List ℕ) (file p seq link spans : ℕ) (rest : ℕ → ℕ → ℕ → ℕ → Result (Unit {0}) Refusal) (d : Result V2ElementHeader Refusal)
     → strict_element img file (p % capacity file) seq link ≡ d
-    → on_header Verdict.Refused d (λ h.
-    demand (leb (spans + element_span h.payload_len) (capacity file)) (Verdict.Refused unsound)
+    → on_ok Err d (λ h.
+    demand (leb (spans + element_span h.payload_len) (capacity file)) (Err Unsound)
     (rest ((p % capacity file + element_span h.payload_len) % capacity file) (seq + 1) (8192 + p % capacity file)
-    (spans + element_span h.payload_len))) ≡ Verdict.Granted
+    (spans + element_span h.payload_len))) ≡ Ok tt
     → Stepped img file p seq link spans rest
-stepped_header img file p seq link spans rest (Parsed.Refused r) a e = absurd (refused e)
-stepped_header img file p seq link spans rest (Parsed.Header h) a e =
+stepped_header img file p seq link spans rest (Err r) a e = absurd (refused e)
+stepped_header img file p seq link spans rest (Ok h) a e =
     let g = granted _ _ _ _ refused e in
     record {
       h = h;
@@ -112,19 +110,19 @@ stepped_header img file p seq link spans rest (Parsed.Header h) a e =
     }
 
 stepped : (left : ℕ) (img : List ℕ) (file last p seq link spans : ℕ)
-    → trail_from img file last (suc left) (p % capacity file) seq link spans ≡ Verdict.Granted
+    → trail_from img file last (suc left) (p % capacity file) seq link spans ≡ Ok tt
     → Stepped img file p seq link spans (trail_from img file last left)
 unfolding trail_from
 stepped left img file last p seq link spans e =
     stepped_header img file p seq link spans (trail_from img file last left) (strict_element img file (p % capacity file) seq link) refl e
 
-stops : (img : List ℕ) (file last p seq link spans : ℕ) → trail_from img file last zero p seq link spans ≡ Verdict.Granted → link ≡ 8192 + last
+stops : (img : List ℕ) (file last p seq link spans : ℕ) → trail_from img file last zero p seq link spans ≡ Ok tt → link ≡ 8192 + last
 unfolding trail_from
 stops img file last p seq link spans e = eqb-true link (8192 + last) (granted _ _ _ _ refused e).0
 
 -- a walk that passes has found a chain
 pub trail_found : (k : ℕ) (img : List ℕ) (file last seq link spans p : ℕ)
-    → trail_from img file last (suc k) (p % capacity file) seq link spans ≡ Verdict.Granted → Found k img file last seq link spans p
+    → trail_from img file last (suc k) (p % capacity file) seq link spans ≡ Ok tt → Found k img file last seq link spans p
 trail_found zero img file last seq link spans p t =
     let s = stepped zero img file last p seq link spans t in
     let size : ℕ = capacity file in
@@ -172,17 +170,17 @@ trail_found (suc k) img file last seq link spans p t =
 -- ---- the other direction
 
 strict_one : (img : List ℕ) (file p : ℕ) (e : Elem) → Holds img (capacity file) p e
-    → strict_element img file (p % capacity file) e.seq e.back ≡ Parsed.Header (header_of e)
+    → strict_element img file (p % capacity file) e.seq e.back ≡ Ok (header_of e)
 unfolding strict_element
 strict_one img file p e h =
     let size : ℕ = capacity file in
     let a = header_there img file p (p % size) e refl h in
-    let s : in_sequence e.seq (Parsed.Header (header_of e)) ≡ Parsed.Header (header_of e) = pass _ _ _ (eq-eqb e.seq e.seq refl) in
+    let s : in_sequence e.seq (Ok (header_of e)) ≡ Ok (header_of e) = pass _ _ _ (eq-eqb e.seq e.seq refl) in
     let f = footer_there img file p (p % size) e refl h in
-    ap (λ (d : ParsedHeader). on_header Parsed.Refused (in_sequence e.seq d) (linked_element img file (p % size) e.back)) a
-    ∙ ap (λ (d : ParsedHeader). on_header Parsed.Refused d (linked_element img file (p % size) e.back)) s
+    ap (λ (d : Result V2ElementHeader Refusal). on_ok Err (in_sequence e.seq d) (linked_element img file (p % size) e.back)) a
+    ∙ ap (λ (d : Result V2ElementHeader Refusal). on_ok Err d (linked_element img file (p % size) e.back)) s
     ∙ pass _ _ _ (eq-eqb e.back e.back refl)
-    ∙ ap (λ (v : Answer.Verdict). on_verdict Parsed.Refused v (Parsed.Header (header_of e))) f
+    ∙ ap (λ (v : Result (Unit {0}) Refusal). on_verdict Err v (Ok (header_of e))) f
 
 one_step : (left : ℕ) (img : List ℕ) (file last p seq link spans : ℕ) (e : Elem) → Holds img (capacity file) p e → e.seq ≡ seq → e.back ≡ link
     → spans + span e ≤ capacity file
@@ -192,15 +190,15 @@ unfolding trail_from
 one_step left img file last p seq link spans e h s b l =
     let size : ℕ = capacity file in
     rw (sym s, sym b)
-    (ap (λ (d : ParsedHeader).
-    on_header Verdict.Refused d (λ x.
-    demand (leb (spans + element_span x.payload_len) size) (Verdict.Refused unsound)
+    (ap (λ (d : Result V2ElementHeader Refusal).
+    on_ok Err d (λ x.
+    demand (leb (spans + element_span x.payload_len) size) (Err Unsound)
     (trail_from img file last left ((p % size + element_span x.payload_len) % size) (e.seq + 1) (8192 + p % size)
     (spans + element_span x.payload_len)))) (strict_one img file p e h)
     ∙ pass _ _ _ (le-leb (spans + span e) size l)
     ∙ ap (λ (x : ℕ). trail_from img file last left x (e.seq + 1) (8192 + p % size) (spans + span e)) (mod-add-mod p size (span e)))
 
-at-end : (img : List ℕ) (file last p seq link spans : ℕ) → link ≡ 8192 + last → trail_from img file last zero p seq link spans ≡ Verdict.Granted
+at-end : (img : List ℕ) (file last p seq link spans : ℕ) → link ≡ 8192 + last → trail_from img file last zero p seq link spans ≡ Ok tt
 unfolding trail_from
 at-end img file last p seq link spans e = pass _ _ _ (eq-eqb link (8192 + last) e)
 
@@ -208,7 +206,7 @@ at-end img file last p seq link spans e = pass _ _ _ (eq-eqb link (8192 + last) 
 pub chain_trail : (es : List Elem) (img : List ℕ) (file last seq link spans p : ℕ) (e : Elem) → Chain img (capacity file) p (e ∷ es)
     → Rising e es → Backs (capacity file) p e es → e.seq ≡ seq → e.back ≡ link → spans + total (e ∷ es) ≤ capacity file
     → last_from p e es % capacity file ≡ last
-    → trail_from img file last (suc (length es)) (p % capacity file) seq link spans ≡ Verdict.Granted
+    → trail_from img file last (suc (length es)) (p % capacity file) seq link spans ≡ Ok tt
 chain_trail [] img file last seq link spans p e c r b s j l z =
     one_step zero img file last p seq link spans e c.0 s j (omega arith)
     ∙ at-end img file last _ _ _ _ (ap (λ (x : ℕ). 8192 + x) z)

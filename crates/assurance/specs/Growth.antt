@@ -1,14 +1,11 @@
 -- Growth keeps the queue. Assumes nothing.
-use Rattle.std.specs.Prelude.{ℕ, ◌+◌, ◌≤◌, ◌≡◌, Bool, true, not, cond, ◌&&◌, List, [], ◌∷◌, length, ltb, eqb}
-use Rattle.refusal.specs.declared.Verdict.TheVariants as Verdict
+use Rattle.std.specs.Prelude.{ℕ, ◌+◌, ◌≤◌, ◌≡◌, Bool, true, not, cond, ◌&&◌, List, [], ◌∷◌, length, ltb, eqb, Ok}
 use Rattle.queue.specs.Element.{capacity}
 use Rattle.queue.specs.State.{sound}
 use Rattle.queue.specs.Recover.{recover_head}
 use Rattle.queue.specs.declared.state.QueueFile.{QueueFile}
-use Rattle.queue.specs.declared.recover.Recovered.TheVariants.{Head}
 use Rattle.writing.specs.Growth.{end_of_last, wrapped, walk_old_ring}
 use Rattle.writing.specs.Expansion.{expand_of}
-use Rattle.writing.specs.declared.answer.Changed.TheVariants.{Queue}
 use Rattle.assurance.specs.Held.{Held, elements_of, places_back, sequences_of, payloads_of}
 use Rattle.assurance.specs.Linked.{Linked}
 use Rattle.assurance.specs.Recovery.{Trail}
@@ -46,24 +43,24 @@ pub record Grown (img : List ℕ) (q : QueueFile) (img' : List ℕ) (q' : QueueF
   pub sequences : sequences_of (elements_of q' img') ≡ sequences_of (elements_of q img)
   pub payloads : payloads_of (elements_of q' img') ≡ payloads_of (elements_of q img)
   pub trail : Trail img' q'.file_len (places_back (elements_of q' img')) q'.last.seq
-  pub recovered : recover_head img' q'.file_len q'.last.pos q'.last.seq q'.elem_cnt ≡ Head q.first
+  pub recovered : recover_head img' q'.file_len q'.last.pos q'.last.seq q'.elem_cnt ≡ Ok q.first
 
 -- demand 3, second half: a linked queue that grows
 abbrev pub GrowthKeepsQueue : Type 0
 GrowthKeepsQueue =
-    (img img' : List ℕ) (q q' : QueueFile) (span : ℕ) → Linked img q → expand_of q span img ≡ (Queue q', img') → Grown img q img' q'
+    (img img' : List ℕ) (q q' : QueueFile) (span : ℕ) → Linked img q → expand_of q span img ≡ (Ok q', img') → Grown img q img' q'
 
 -- to say it by itself: what was linked is linked once grown
 abbrev pub GrowthStaysLinked : Type 0
 GrowthStaysLinked =
-    (img img' : List ℕ) (q q' : QueueFile) (span : ℕ) → Linked img q → expand_of q span img ≡ (Queue q', img') → Linked img' q'
+    (img img' : List ℕ) (q q' : QueueFile) (span : ℕ) → Linked img q → expand_of q span img ≡ (Ok q', img') → Linked img' q'
 
 -- and the walk in the old ring refuses no linked queue: its growth fails by its numbers alone
 abbrev pub LinkedPassesWalk : Type 0
-LinkedPassesWalk = (img : List ℕ) (q : QueueFile) → Linked img q → walk_old_ring q img ≡ Verdict.Granted
+LinkedPassesWalk = (img : List ℕ) (q : QueueFile) → Linked img q → walk_old_ring q img ≡ Ok tt
 
 -- that it is linked before is needed: a sound state with elements is not enough
 abbrev pub LinkedIsNeeded : Type 0
 LinkedIsNeeded =
     ((img img' : List ℕ) (q q' : QueueFile) (span : ℕ) → sound q (length img) ≡ true → 1 ≤ q.elem_cnt →
-    expand_of q span img ≡ (Queue q', img') → Grown img q img' q') → ⊥
+    expand_of q span img ≡ (Ok q', img') → Grown img q img' q') → ⊥

@@ -1,12 +1,11 @@
 -- The elements that a queue holds, as a list: what its headers tell from first on, place by place. Assumes nothing.
-use Rattle.std.specs.Prelude.{ℕ, zero, suc, List, [], ◌∷◌, ◌++◌}
+use Rattle.std.specs.Prelude.{ℕ, zero, suc, List, [], ◌∷◌, ◌++◌, Result, Ok, Err}
 use Rattle.ring.specs.Ring.{ring_add}
 use Rattle.format.specs.Element.{element_span}
 use Rattle.format.specs.declared.element.V2ElementHeader.{V2ElementHeader}
-use Rattle.format.specs.declared.element.ParsedHeader as Read
-use Rattle.format.specs.declared.element.ParsedHeader.TheVariants as Parsed
 use Rattle.queue.specs.Element.{capacity, element_here, header_at, payload_at}
 use Rattle.queue.specs.declared.state.QueueFile.{QueueFile}
+use Rattle.refusal.specs.declared.Refusal.{Refusal}
 
 -- an element: its place in the ring, its sequence, its backlink and its payload
 pub record Held : Type 0 where
@@ -21,9 +20,9 @@ held_here img file p h =
     record { place = p; seq = h.seq; back = h.prev_pos; payload = payload_at img file (element_here p h) }
 
 -- the rest goes on behind it; a header that is not valid ends the list
-abbrev pub held_step : List ℕ → ℕ → ℕ → Read.ParsedHeader → (ℕ → List Held) → List Held
-held_step img file p (Parsed.Refused r) rest = []
-held_step img file p (Parsed.Header h) rest =
+abbrev pub held_step : List ℕ → ℕ → ℕ → Result V2ElementHeader Refusal → (ℕ → List Held) → List Held
+held_step img file p (Err r) rest = []
+held_step img file p (Ok h) rest =
     held_here img file p h ∷ rest (ring_add (capacity file) p (element_span h.payload_len))
 
 -- so many elements, from the place p on

@@ -1,7 +1,5 @@
 -- Linked: what demand 3 asks of a queue, over its state and its image. Assumes nothing.
-use Rattle.std.specs.Prelude.{ℕ, ◌-◌, ◌≤◌, ◌≡◌, ◌⊎◌, true, List, length}
-use Rattle.refusal.specs.declared.Verdict.TheVariants as Verdict
-use Rattle.format.specs.declared.element.ParsedHeader.TheVariants as Parsed
+use Rattle.std.specs.Prelude.{ℕ, ◌-◌, ◌≤◌, ◌≡◌, ◌⊎◌, true, List, length, Ok}
 use Rattle.queue.specs.Element.{header_at}
 use Rattle.queue.specs.State.{sound}
 use Rattle.queue.specs.Strict.{trail_from}
@@ -11,7 +9,7 @@ use Rattle.queue.specs.declared.state.QueueFile.{QueueFile}
 -- the header at an element's place is valid, and has its length, its sequence and that backlink
 abbrev pub Stands : List ℕ → ℕ → Element → ℕ → Type 0
 Stands img file e back =
-    header_at img file e.pos ≡ Parsed.Header (record { payload_len = e.len; seq = e.seq; prev_pos = back })
+    header_at img file e.pos ≡ Ok (record { payload_len = e.len; seq = e.seq; prev_pos = back })
 
 -- linked: sound, with at least one element; the state's first and last hold their headers' lengths and sequences; and every rule of
 -- strict opening holds but the one on first's backlink: its own is the one that is asked for
@@ -24,7 +22,7 @@ pub record Linked (img : List ℕ) (q : QueueFile) : Type 0 where
   pub last : Stands img q.file_len q.last last-back
   pub trail :
       trail_from img q.file_len q.last.pos q.elem_cnt q.first.pos (q.format.next_seq - q.elem_cnt) first_back 0
-      ≡ Verdict.Granted
+      ≡ Ok tt
 
 -- sound, with no element
 pub record Empty (img : List ℕ) (q : QueueFile) : Type 0 where

@@ -24,3 +24,8 @@ NoSecond {A = A} P = (a b : A) → P a → P b → a ≡ b
 -- the same of an answer and the bytes beside it
 abbrev pub NoSecondPair : {A : Type 0} → (A → List ℕ → Type 0) → Type 0
 NoSecondPair {A = A} P = (r r' : A) (s s' : List ℕ) → P r s → P r' s' → ◌≡◌ {A = A × List ℕ} (r, s) (r', s')
+
+-- what an `impl` of `Number` in the crate `wire` tells of a type: the number that a value is, and back
+pub record Numbers (A : Type 0) : Type 0 where
+  pub value : A → ℕ
+  pub with_value : ℕ → A

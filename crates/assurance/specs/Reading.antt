@@ -1,19 +1,18 @@
 -- What is read from a queue is the list that it holds: its elements are of one run, peek gives the first and iteration all of them,
 -- by a cursor and by a reader. Assumes nothing.
-use Rattle.std.specs.Prelude.{ℕ, zero, suc, ◌-◌, ◌≤◌, ◌≡◌, List, [], ◌∷◌, length}
+use Rattle.std.specs.Prelude.{ℕ, zero, suc, ◌-◌, ◌≤◌, ◌≡◌, List, [], ◌∷◌, length, Result, Ok, Err, Option, Some, None}
 use Rattle.std.specs.Borrow.{Bor}
 use Rattle.wire.specs.Wire.{bytes_at}
 use Rattle.queue.specs.Element.{capacity, payload_at}
 use Rattle.queue.specs.Peek.{judge_peek}
 use Rattle.queue.specs.Iter.{start_of, judge_step, reader_of, next_of, next_output}
 use Rattle.queue.specs.declared.state.QueueFile.{QueueFile}
-use Rattle.queue.specs.declared.peek.Peeked.TheVariants as Peeked
 use Rattle.queue.specs.declared.iter.Cursor.{Cursor}
 use Rattle.queue.specs.declared.iter.Iter.{Iter}
-use Rattle.queue.specs.declared.iter.Stepped as Answer
-use Rattle.queue.specs.declared.iter.Stepped.TheVariants as Stepped
 use Rattle.assurance.specs.Held.{Held, elements_of, sequences_of}
 use Rattle.assurance.specs.Linked.{Linked}
+use Rattle.refusal.specs.declared.Refusal.{Refusal}
+use Rattle.queue.specs.declared.iter.Step.{Step}
 
 -- ---- one run
 
@@ -38,17 +37,17 @@ first_payload (e ∷ es) = e.payload
 abbrev pub PeekGivesFirst : Type 0
 PeekGivesFirst =
     (img : List ℕ) (q : QueueFile) (room : ℕ) → Linked img q → q.first.len ≤ room →
-    (judge_peek q img room ≡ Peeked.Payload q.first.len)
+    (judge_peek q img room ≡ Ok (Some q.first.len))
     × (payload_at img q.file_len q.first ≡ first_payload (elements_of q img))
 
 -- ---- iteration
 
 -- what it hands out from a cursor on, in so many steps: it stops at the end, or at the first refused element
-abbrev pub handed_step : List ℕ → ℕ → Answer.Stepped → (Cursor → List Held) → List Held
-handed_step img file (Stepped.Element s) rest =
+abbrev pub handed_step : List ℕ → ℕ → Result (Option Step) Refusal → (Cursor → List Held) → List Held
+handed_step img file (Ok (Some s)) rest =
     record { place = s.elem.pos; seq = s.elem.seq; back = s.prev_pos; payload = payload_at img file s.elem } ∷ rest s.next
-handed_step img file Stepped.End rest = []
-handed_step img file (Stepped.Refused r) rest = []
+handed_step img file (Ok None) rest = []
+handed_step img file (Err r) rest = []
 
 unfoldable pub handed : QueueFile → List ℕ → ℕ → ℕ → Cursor → List Held
 handed q img room zero c = []
@@ -61,11 +60,11 @@ IterationGivesAll =
     handed q img room steps (start_of q) ≡ elements_of q img
 
 -- what a reader hands out from `next` to `next` over one output, in so many steps: the payload is what then stands at the output's front
-abbrev pub read_step : Answer.Stepped → List ℕ → List Held → List Held
-read_step (Stepped.Element s) out rest =
+abbrev pub read_step : Result (Option Step) Refusal → List ℕ → List Held → List Held
+read_step (Ok (Some s)) out rest =
     record { place = s.elem.pos; seq = s.elem.seq; back = s.prev_pos; payload = bytes_at s.elem.len out 0 } ∷ rest
-read_step Stepped.End out rest = []
-read_step (Stepped.Refused r) out rest = []
+read_step (Ok None) out rest = []
+read_step (Err r) out rest = []
 
 unfoldable pub read_by : Iter → List ℕ → ℕ → List Held
 read_by it out zero = []

@@ -2,36 +2,27 @@
 -- crate and itself, with its promise word for word as in OneAnswer: what keeps the promise and is a refusal leaves the bytes as they were.
 -- `.ci/contracts` holds each line to its promise, and sees that no such function is left out. A state or a cursor goes in by value, so that
 -- the caller's own stays as it is whatever is answered; what a cursor is after a step, and a reader, has a line too. Assumes nothing.
-use Rattle.std.specs.Prelude.{ℕ, suc, ◌-◌, ◌≡◌, List, length}
-use Rattle.refusal.specs.Verdict.{verdict_refusal, after}
+use Rattle.std.specs.Prelude.{ℕ, suc, ◌-◌, ◌≡◌, List, length, Result, Err, Option, None}
+use Rattle.refusal.specs.Answer.{number_or_0, after}
 use Rattle.refusal.specs.declared.Refusal.{Refusal}
-use Rattle.refusal.specs.declared.Verdict.{Verdict}
-use Rattle.refusal.specs.declared.Verdict.TheVariants as Verdicts
 use Rattle.script.specs.Hex.{bytes_of}
-use Rattle.script.specs.declared.hex.Bytes.{Bytes}
-use Rattle.script.specs.declared.hex.Bytes.TheVariants as Spelt
 use Rattle.ring.specs.Ring.{ring_read, ring_write, ring_erase, relocated, judge_ring, judge_relocation}
 use Rattle.queue.specs.Element.{payload_at}
 use Rattle.queue.specs.Peek.{judge_peek, peeked_output}
 use Rattle.queue.specs.Iter.{judge_step, stepped_output, cursor_after, next_of, next_output}
 use Rattle.queue.specs.declared.state.Settings.{Settings}
 use Rattle.queue.specs.declared.state.QueueFile.{QueueFile}
-use Rattle.queue.specs.declared.peek.Peeked.{Peeked}
-use Rattle.queue.specs.declared.peek.Peeked.TheVariants as Peeks
 use Rattle.queue.specs.declared.iter.Cursor.{Cursor}
 use Rattle.queue.specs.declared.iter.Iter.{Iter}
 use Rattle.queue.specs.declared.iter.Next.{Next}
-use Rattle.queue.specs.declared.iter.Stepped.{Stepped}
-use Rattle.queue.specs.declared.iter.Stepped.TheVariants as Steps
 use Rattle.writing.specs.Commit.{commit_of}
 use Rattle.writing.specs.Expansion.{expand_of}
 use Rattle.writing.specs.Adding.{add_of}
 use Rattle.writing.specs.Removal.{remove_of}
 use Rattle.writing.specs.Clearing.{clear_of}
 use Rattle.writing.specs.Fresh.{fresh_of}
-use Rattle.writing.specs.declared.answer.Changed.{Changed}
-use Rattle.writing.specs.declared.answer.Changed.TheVariants as Changes
 use Rattle.exports.specs.Runs.{adds_of, removes_of, clears_of, peeks_of, steps_of}
+use Rattle.queue.specs.declared.iter.Step.{Step}
 
 -- of a promise P: with a refusal, whichever, the bytes are the old ones
 abbrev pub Unchanged : {A X : Type 0} → (X → A) → List ℕ → (A → List ℕ → Type 0) → Type 0
@@ -39,44 +30,44 @@ Unchanged {X = X} refuse old P = (x : X) (s : List ℕ) → P (refuse x) s → s
 
 -- a reader's step that is refused, with a reader beside it, whichever
 abbrev pub next_refused : Refusal × Iter → Next
-next_refused x = record { stepped = Steps.Refused x.0; iter = x.1 }
+next_refused x = record { stepped = Err x.0; iter = x.1 }
 
 pub record RefusalsChangeNothing : Type 0 where
   -- it refuses in one way, without a number
   pub script::parse_bytes :
       (word out : List ℕ) →
-      Unchanged (λ (x : Refusal). Spelt.Bad) out (λ (r : Bytes) (out' : List ℕ). (r, out') ≡ bytes_of word out)
+      Unchanged (λ (x : Refusal). None) out (λ (r : Option ℕ) (out' : List ℕ). (r, out') ≡ bytes_of word out)
   pub ring::read_at :
       (image : List ℕ) (file_len logical_pos : ℕ) (buf : List ℕ) →
-      Unchanged Verdicts.Refused buf (λ (r : Verdict) (buf' : List ℕ).
+      Unchanged Err buf (λ (r : Result (Unit {0}) Refusal) (buf' : List ℕ).
       (r ≡ judge_ring 8192 (length image) file_len)
       × (buf' ≡ after r (ring_read 8192 (file_len - 8192) image logical_pos (length buf)) buf))
   pub «ring::relocate» :
       (image : List ℕ) (orig_file_len moved_count : ℕ) →
-      Unchanged Verdicts.Refused image (λ (r : Verdict) (image' : List ℕ).
+      Unchanged Err image (λ (r : Result (Unit {0}) Refusal) (image' : List ℕ).
       (r ≡ judge_relocation 8192 (length image) orig_file_len moved_count)
       × (image' ≡ after r (relocated 8192 image orig_file_len moved_count) image))
   pub ring::write_at :
       (image : List ℕ) (file_len logical_pos : ℕ) (buf : List ℕ) →
-      Unchanged Verdicts.Refused image (λ (r : Verdict) (image' : List ℕ).
+      Unchanged Err image (λ (r : Result (Unit {0}) Refusal) (image' : List ℕ).
       (r ≡ judge_ring 8192 (length image) file_len)
       × (image' ≡ after r (ring_write 8192 (file_len - 8192) image logical_pos buf) image))
   pub ring::erase_at :
       (image : List ℕ) (file_len logical_pos len : ℕ) →
-      Unchanged Verdicts.Refused image (λ (r : Verdict) (image' : List ℕ).
+      Unchanged Err image (λ (r : Result (Unit {0}) Refusal) (image' : List ℕ).
       (r ≡ judge_ring 8192 (length image) file_len)
       × (image' ≡ after r (ring_erase 8192 (file_len - 8192) image logical_pos len) image))
   pub queue::QueueFile::peek_into :
       (self : QueueFile) (image out : List ℕ) →
-      Unchanged Peeks.Refused out (λ (r : Peeked) (out' : List ℕ).
+      Unchanged Err out (λ (r : Result (Option ℕ) Refusal) (out' : List ℕ).
       (r ≡ judge_peek self image (length out))
       × (out' ≡ peeked_output r (payload_at image self.file_len self.first) out))
   pub «queue::QueueFile::step» :
       (self : QueueFile) (image : List ℕ) (cursor : Cursor) (out : List ℕ) →
-      Unchanged Steps.Refused out (λ (r : Stepped) (out' : List ℕ).
+      Unchanged Err out (λ (r : Result (Option Step) Refusal) (out' : List ℕ).
       (r ≡ judge_step self image cursor (length out))
       × (out' ≡ stepped_output r image self.file_len out))
-  pub the-cursor : (cursor : Cursor) (x : Refusal) → cursor_after (Steps.Refused x) cursor ≡ cursor
+  pub the-cursor : (cursor : Cursor) (x : Refusal) → cursor_after (Err x) cursor ≡ cursor
   pub «queue::Iter::next» :
       (self : Iter) (out : List ℕ) →
       Unchanged next_refused out (λ (r : Next) (out' : List ℕ).
@@ -85,42 +76,42 @@ pub record RefusalsChangeNothing : Type 0 where
   pub the-reader : (self : Iter) (room : ℕ) (x : Refusal × Iter) → next_refused x ≡ next_of self room → x.1 ≡ self
   pub «writing::fresh» :
       (image : List ℕ) (file_len : ℕ) (settings : Settings) →
-      Unchanged Changes.Refused image (λ (r : Changed) (image' : List ℕ). (r, image') ≡ fresh_of file_len settings image)
+      Unchanged Err image (λ (r : Result QueueFile Refusal) (image' : List ℕ). (r, image') ≡ fresh_of file_len settings image)
   pub «writing::commit» :
       (q : QueueFile) (image : List ℕ) →
-      Unchanged Changes.Refused image (λ (r : Changed) (image' : List ℕ). (r, image') ≡ commit_of q image)
+      Unchanged Err image (λ (r : Result QueueFile Refusal) (image' : List ℕ). (r, image') ≡ commit_of q image)
   pub «writing::add» :
       (q : QueueFile) (image payload : List ℕ) →
-      Unchanged Changes.Refused image (λ (r : Changed) (image' : List ℕ). (r, image') ≡ add_of q payload image)
+      Unchanged Err image (λ (r : Result QueueFile Refusal) (image' : List ℕ). (r, image') ≡ add_of q payload image)
   pub writing::remove_n :
       (q : QueueFile) (image : List ℕ) (n : ℕ) →
-      Unchanged Changes.Refused image (λ (r : Changed) (image' : List ℕ). (r, image') ≡ remove_of q n image)
+      Unchanged Err image (λ (r : Result QueueFile Refusal) (image' : List ℕ). (r, image') ≡ remove_of q n image)
   pub «writing::clear» :
       (q : QueueFile) (image : List ℕ) →
-      Unchanged Changes.Refused image (λ (r : Changed) (image' : List ℕ). (r, image') ≡ clear_of q image)
+      Unchanged Err image (λ (r : Result QueueFile Refusal) (image' : List ℕ). (r, image') ≡ clear_of q image)
   pub writing::expand_if_necessary :
       (q : QueueFile) (image : List ℕ) (data_len : ℕ) →
-      Unchanged Changes.Refused image (λ (r : Changed) (image' : List ℕ). (r, image') ≡ expand_of q data_len image)
+      Unchanged Err image (λ (r : Result QueueFile Refusal) (image' : List ℕ). (r, image') ≡ expand_of q data_len image)
   -- these answer a number, which is not 0 where they refuse
   pub exports::port_ring_read :
       (image : List ℕ) (file_len logical_pos : ℕ) (buf : List ℕ) →
       Unchanged suc buf (λ (r : ℕ) (buf' : List ℕ).
-      (r ≡ (verdict_refusal (judge_ring 8192 (length image) file_len)).number)
+      (r ≡ number_or_0 (judge_ring 8192 (length image) file_len))
       × (buf' ≡ after (judge_ring 8192 (length image) file_len) (ring_read 8192 (file_len - 8192) image logical_pos (length buf)) buf))
   pub exports::port_ring_write :
       (image : List ℕ) (file_len logical_pos : ℕ) (buf : List ℕ) →
       Unchanged suc image (λ (r : ℕ) (image' : List ℕ).
-      (r ≡ (verdict_refusal (judge_ring 8192 (length image) file_len)).number)
+      (r ≡ number_or_0 (judge_ring 8192 (length image) file_len))
       × (image' ≡ after (judge_ring 8192 (length image) file_len) (ring_write 8192 (file_len - 8192) image logical_pos buf) image))
   pub exports::port_ring_erase :
       (image : List ℕ) (file_len logical_pos len : ℕ) →
       Unchanged suc image (λ (r : ℕ) (image' : List ℕ).
-      (r ≡ (verdict_refusal (judge_ring 8192 (length image) file_len)).number)
+      (r ≡ number_or_0 (judge_ring 8192 (length image) file_len))
       × (image' ≡ after (judge_ring 8192 (length image) file_len) (ring_erase 8192 (file_len - 8192) image logical_pos len) image))
   pub exports::port_relocate :
       (image : List ℕ) (orig_file_len moved_count : ℕ) →
       Unchanged suc image (λ (r : ℕ) (image' : List ℕ).
-      (r ≡ (verdict_refusal (judge_relocation 8192 (length image) orig_file_len moved_count)).number)
+      (r ≡ number_or_0 (judge_relocation 8192 (length image) orig_file_len moved_count))
       × (image' ≡ after (judge_relocation 8192 (length image) orig_file_len moved_count) (relocated 8192 image orig_file_len moved_count) image))
   -- these answer how many of n operations were carried out, and refuse at once where that is 0; a later one that is refused ends them, and
   -- what those before it did stays

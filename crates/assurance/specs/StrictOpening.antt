@@ -1,10 +1,9 @@
 -- Strict opening is exact: what opens strictly is one whole trail, and none of another run. Assumes nothing.
-use Rattle.std.specs.Prelude.{ℕ, ◌≡◌, ◌⊎◌, List}
+use Rattle.std.specs.Prelude.{ℕ, ◌≡◌, ◌⊎◌, List, Ok}
 use Rattle.queue.specs.Opening.{open_queue}
 use Rattle.queue.specs.Strict.{open_strictly}
 use Rattle.queue.specs.declared.state.Settings.{Settings}
 use Rattle.queue.specs.declared.state.QueueFile.{QueueFile}
-use Rattle.queue.specs.declared.opening.Opened.TheVariants.{Queue}
 use Rattle.assurance.specs.Linked.{Linked, Empty}
 
 -- the rule on first's backlink: it names nothing
@@ -20,5 +19,5 @@ pub record WholeTrail (img : List ℕ) (q : QueueFile) : Type 0 where
 abbrev pub StrictOpeningIsExact : Type 0
 StrictOpeningIsExact =
     (img : List ℕ) (real : ℕ) (settings : Settings) (q : QueueFile) →
-    (open_strictly img real settings ≡ Queue q → (open_queue img real settings ≡ Queue q) × (WholeTrail img q ⊎ Empty img q))
-    × (open_queue img real settings ≡ Queue q → WholeTrail img q ⊎ Empty img q → open_strictly img real settings ≡ Queue q)
+    (open_strictly img real settings ≡ Ok q → (open_queue img real settings ≡ Ok q) × (WholeTrail img q ⊎ Empty img q))
+    × (open_queue img real settings ≡ Ok q → WholeTrail img q ⊎ Empty img q → open_strictly img real settings ≡ Ok q)

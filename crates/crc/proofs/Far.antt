@@ -2,19 +2,21 @@
 -- behind it as it is. A list of the last 300 bytes that left says what is added to the next ones. Assumes nothing.
 use mathlib.Core.Path.{◌≡◌, refl, sym, ap, ap₂, ◌∙◌}
 use mathlib.Core.List.{List, [], ◌∷◌, ◌++◌}
-use Prim.Native.Nat.{ℕ, zero, suc, ◌+◌, ◌-◌, ◌*◌, ◌^◌, ◌≤◌, ◌<◌}
-use native.Mathlib.Nat.{mul_assoc, mul-one, suc-mul, add_assoc, add_left_comm, add_comm, add-zero}
+use Prim.Native.Nat.{ℕ, zero, suc, ◌+◌, ◌-◌, ◌*◌, ◌/◌, ◌%◌, ◌^◌, ◌≤◌, ◌<◌}
+use native.Mathlib.Nat.{suc-ne-zero, mul_assoc, mul-one, suc-mul, add_assoc, add_left_comm, add_comm, add-zero}
 use native.Mathlib.Numerals.{add-one}
 use native.Mathlib.Omega.{arith}
 use lib.Pow.{pow-add}
-use lib.ListN.{length, get_or, take, drop, set, replicate, length-drop, take-append-drop, replicate-append-replicate}
-use lib.Seq.{drop-cons, drop-drop, drop-append-le, drop-set-add, drop-set-lt, take-suc, take-suc-set, take-nil, take-length, length-take-le, get_or-take, get_or-drop, take-take}
+use lib.ListN.{length, get_or, take, drop, set, replicate, length-drop, take-append-drop}
+use lib.Seq.{paste, take-paste, take-append_seam, take-append-add, drop-append_seam, drop-cons, drop-drop, drop-append-le, drop-set-add, drop-length, take-suc, take-suc-set, take-nil, take-length, length-take-le, get_or-take, get_or-drop, take-take}
+use Rattle.std.proofs.Common.{append_assoc}
 use lib.Bits.{bit_xor, xor_self, xor_zero_r}
 use Rattle.crc.specs.Crc.{shift, shifts, byte_in, bytes_in}
 use Rattle.crc.specs.Words.{above, sum4, Same, placed, spread, reach, zeros}
+use Rattle.std.specs.Int.{w32, to_le_bytes}
+use Rattle.crc.proofs.Parts.{same_more}
 use Rattle.crc.proofs.Linear.{xor_assoc, sum4_eq, sum4_xor, sum4_square, shifts_xor, shifts-sum4, shifts_up, shifts_add, bytes-append}
 use Rattle.crc.proofs.Words.{above_xor, above-sum4, above_zero, above_low, above-number, word_met}
-use Rattle.crc.proofs.Parts.{none_left}
 use Rattle.crc.proofs.Fold.{copies, folded}
 
 -- ---- 1 with its far copies leaves nothing: the rule of the near copies is computed, and squared three times
@@ -174,63 +176,57 @@ window_step l i x h =
 window_reach : (l : List ℕ) (i : ℕ) → reach (take 300 (drop i l)) 0 ≡ reach l i
 window_reach l i = reach-take 300 (drop i l) 0 (omega arith) ∙ reach-from l i
 
--- the byte at j goes in
-byte_in_lem : (bs : List ℕ) (j s : ℕ) → j < length bs → bytes_in (shifts 8 (bit_xor s (get_or bs j 0))) (drop (suc j) bs) ≡ bytes_in s (drop j bs)
-unfolding bytes_in byte_in
-byte_in_lem bs j s h = sym (ap (bytes_in s) (drop-cons bs j 0 h))
-
 bytes_snoc : (r : ℕ) (bs : List ℕ) (x : ℕ) → bytes_in r (bs ++ (x ∷ [])) ≡ shifts 8 (bit_xor (bytes_in r bs) x)
 unfolding bytes_in byte_in
 bytes_snoc r bs x = bytes-append r bs (x ∷ [])
 
-module _ (bs : List ℕ) (at i : ℕ) where
-  next_byte : at + (i + 1) ≡ suc (at + i)
-  next_byte = omega arith
+-- one more byte has left
+pub fill_turn : (l bs : List ℕ) (i x r : ℕ) → 300 + i < length l → i < length bs → x ≡ bit_xor (reach l i) (get_or bs i 0) → x < 2 ^ 8
+    → Same 300 (spread (take 300 (drop i l))) (bytes_in r (take i bs))
+    → Same 300 (spread (take 300 (drop (i + 1) (set l (300 + i) x)))) (bytes_in r (take (i + 1) bs))
+unfolding bytes_in byte_in
+fill_turn l bs i x r h g e f same =
+    let w = get_or bs i 0 in
+    let n : length (take 300 (drop i l)) ≡ 300 = length-take-le 300 (drop i l) (omega (arith, length-drop i l)) in
+    same_more 300 (spread (take 300 (drop i l))) _ (bytes_in r (take i bs)) _ (w ∷ []) same
+    (λ ys m. ap (λ (v : List ℕ). bytes_in (spread v) ys) (window_step l i x h)
+    ∙ far_turn (take 300 (drop i l)) w x n (e ∙ ap (λ (y : ℕ). bit_xor y w) (sym (window_reach l i))) f ys m)
+    (sym (ap (λ (k : ℕ). bytes_in r (take k bs)) (add-one i) ∙ ap (bytes_in r) (take-suc bs i 0 g) ∙ bytes-append r (take i bs) (w ∷ [])))
 
-  -- one more byte has left
-  pub fill_turn : (l : List ℕ) (x : ℕ) → 300 + i < length l → at + i + 1 + 300 ≤ length bs → x ≡ bit_xor (reach l i) (get_or bs (at + i) 0) → x < 2 ^ 8
-      → bytes_in (spread (take 300 (drop (i + 1) (set l (300 + i) x)))) (drop (at + (i + 1)) bs) ≡ bytes_in (spread (take 300 (drop i l))) (drop (at + i) bs)
-  fill_turn l x h m e f =
-      let w = get_or bs (at + i) 0 in
-      let n : length (take 300 (drop i l)) ≡ 300 = length-take-le 300 (drop i l) (omega (arith, length-drop i l)) in
-      ap₂ (λ (v : List ℕ) (k : ℕ). bytes_in (spread v) (drop k bs)) (window_step l i x h) next_byte
-      ∙ far_turn (take 300 (drop i l)) w x n (e ∙ ap (λ (y : ℕ). bit_xor y w) (sym (window_reach l i))) f (drop (suc (at + i)) bs)
-      (omega (arith, length-drop (suc (at + i)) bs))
-      ∙ byte_in_lem bs (at + i) (spread (take 300 (drop i l))) (omega arith)
+-- the last bytes go to the front
+pub slid : (l : List ℕ) (n : ℕ) → n + 300 ≤ length l → take 300 (paste l 0 (drop n l) (n + 300 - n)) ≡ take 300 (drop n l)
+slid l n h =
+    let e : n + 300 - n ≡ 300 = omega arith in
+    ap (λ (j : ℕ). take 300 (paste l 0 (drop n l) j)) e
+    ∙ take-paste l 0 (drop n l) 300 (omega arith) (omega (arith, length-drop n l))
 
-  -- one more byte is mixed with what is added to it
-  pub mixed_turn : (l m : List ℕ) (x : ℕ) → i < length m → at + i < length bs → x ≡ bit_xor (reach l i) (get_or bs (at + i) 0)
-      → bytes_in (bit_xor (bytes_in 0 (take (i + 1) (set m i x))) (spread (drop (i + 1) l))) (drop (at + (i + 1)) bs)
-      ≡ bytes_in (bit_xor (bytes_in 0 (take i m)) (spread (drop i l))) (drop (at + i) bs)
-  mixed_turn l m x h g e =
-      let w = get_or bs (at + i) 0 in
-      let q = bytes_in 0 (take i m) in
-      let t = spread (drop (i + 1) l) in
-      let q' : bytes_in 0 (take (i + 1) (set m i x)) ≡ shifts 8 (bit_xor (bit_xor q (reach l i)) w)
-      = ap (bytes_in 0) (ap (λ (k : ℕ). take k (set m i x)) (add-one i) ∙ take-suc-set m i x h)
-      ∙ bytes_snoc 0 (take i m) x ∙ ap (shifts 8) (ap (bit_xor q) e ∙ sym (xor_assoc q (reach l i) w)) in
-      ap₂ (λ (r k : ℕ). bytes_in r (drop k bs)) (ap (λ (y : ℕ). bit_xor y t) q' ∙ sym (word_met 8 q (reach l i) w t)) next_byte
-      ∙ byte_in_lem bs (at + i) (bit_xor q (above 8 (reach l i) t)) g
-      ∙ ap (λ (r : ℕ). bytes_in (bit_xor q r) (drop (at + i) bs)) (sym (spread-from l i))
+-- ---- the list that `mixed` makes
 
--- ---- the list that `slide` moves
+-- one more byte is mixed with what is added to it
+mixed_turn : (bs l m : List ℕ) (i : ℕ) → i < length m → i < length bs → get_or m i 0 ≡ bit_xor (reach l i) (get_or bs i 0)
+    → bytes_in (bit_xor (bytes_in 0 (take (suc i) m)) (spread (drop (suc i) l))) (drop (suc i) bs)
+    ≡ bytes_in (bit_xor (bytes_in 0 (take i m)) (spread (drop i l))) (drop i bs)
+unfolding bytes_in byte_in
+mixed_turn bs l m i h g e =
+    let w = get_or bs i 0 in
+    let q = bytes_in 0 (take i m) in
+    let t = spread (drop (i + 1) l) in
+    let q' : bytes_in 0 (take (suc i) m) ≡ shifts 8 (bit_xor (bit_xor q (reach l i)) w)
+    = ap (bytes_in 0) (take-suc m i 0 h)
+    ∙ bytes_snoc 0 (take i m) (get_or m i 0) ∙ ap (shifts 8) (ap (bit_xor q) e ∙ sym (xor_assoc q (reach l i) w)) in
+    ap (λ (k : ℕ). bytes_in (bit_xor (bytes_in 0 (take (suc i) m)) (spread (drop k l))) (drop (suc i) bs)) (sym (add-one i))
+    ∙ ap (λ (r : ℕ). bytes_in r (drop (suc i) bs)) (ap (λ (y : ℕ). bit_xor y t) q' ∙ sym (word_met 8 q (reach l i) w t))
+    ∙ sym
+    (ap (λ (r : ℕ). bytes_in (bit_xor q r) (drop i bs)) (spread-from l i)
+    ∙ ap (bytes_in (bit_xor q (above 8 (reach l i) t))) (drop-cons bs i 0 g))
 
-module _ (l₀ l : List ℕ) (n i : ℕ) (same : drop i l ≡ drop i l₀) where
-  -- what has not been written yet is read
-  unwritten : get_or l (n + i) 0 ≡ get_or (drop n l₀) i 0
-  unwritten =
-      ap (λ (k : ℕ). get_or l k 0) (add_comm n i) ∙ sym (get_or-drop i l n 0) ∙ ap (λ (m : List ℕ). get_or m n 0) same ∙ get_or-drop i l₀ n 0
-      ∙ ap (λ (k : ℕ). get_or l₀ k 0) (add_comm i n) ∙ sym (get_or-drop n l₀ i 0)
-
-  pub slide_front : i < length l → n + i < length l₀ → take i l ≡ take i (drop n l₀) → take (i + 1) (set l i (get_or l (n + i) 0)) ≡ take (i + 1) (drop n l₀)
-  slide_front h g e =
-      let room : i < length (drop n l₀) = omega (arith, length-drop n l₀) in
-      ap (λ (k : ℕ). take k (set l i (get_or l (n + i) 0))) (add-one i) ∙ take-suc-set l i (get_or l (n + i) 0) h
-      ∙ ap₂ (λ (m : List ℕ) (x : ℕ). m ++ (x ∷ [])) e unwritten
-      ∙ sym (ap (λ (k : ℕ). take k (drop n l₀)) (add-one i) ∙ take-suc (drop n l₀) i 0 room)
-
-  pub slide_back : (x : ℕ) → drop (i + 1) (set l i x) ≡ drop (i + 1) l₀
-  slide_back x = drop-set-lt (i + 1) l i x (omega arith) ∙ sym (drop-drop 1 i l) ∙ ap (drop 1) same ∙ drop-drop 1 i l₀
+-- and i of them
+mixed_so_far : (bs l m : List ℕ) (n : ℕ) → length m ≡ n → length bs ≡ n → ((k : ℕ) → k < n → get_or m k 0 ≡ bit_xor (reach l k) (get_or bs k 0)) → (i : ℕ) → i ≤ n
+    → bytes_in (bit_xor (bytes_in 0 (take i m)) (spread (drop i l))) (drop i bs) ≡ bytes_in (spread l) bs
+unfolding bytes_in
+mixed_so_far bs l m n a b e zero h = refl
+mixed_so_far bs l m n a b e (suc i) h =
+    mixed_turn bs l m i (omega (arith, a, h)) (omega (arith, b, h)) (e i (omega (arith, h))) ∙ mixed_so_far bs l m n a b e i (omega (arith, h))
 
 -- ---- zeros behind the last bytes
 
@@ -248,14 +244,19 @@ spread-zeros l n h =
     from : (k : ℕ) → k ≤ length l → placed (drop k (l ++ zeros n)) ≡ placed (drop k l)
     from k g = ap placed (drop-append-le k l (zeros n) g) ∙ placed-zeros (drop k l) n
 
--- one zero more
-pub zeros_more : (l : List ℕ) (i : ℕ) → 300 ≤ i → i < length l → drop 300 (take i l) ≡ zeros (i - 300) → drop 300 (take (i + 1) (set l i 0)) ≡ zeros (i + 1 - 300)
+-- zeros in the place of the bytes behind the first 300
+pub cleared : (l os ps : List ℕ) (n : ℕ) → 300 ≤ length l → n ≡ 159 → os ≡ replicate n 0
+    → (take 300 (take 300 l ++ (os ++ ps)) ≡ take 300 l) × (drop 300 (take 459 (take 300 l ++ (os ++ ps))) ≡ zeros 159)
 unfolding zeros
-zeros_more l i g h e =
-    let n : length (take i l) ≡ i = length-take-le i l (omega arith) in
-    let m : i - 300 + 1 ≡ i + 1 - 300 = omega arith in
-    ap (drop 300) (ap (λ (k : ℕ). take k (set l i 0)) (add-one i) ∙ take-suc-set l i 0 h) ∙ drop-append-le 300 (take i l) (0 ∷ []) (omega arith)
-    ∙ ap (λ (z : List ℕ). z ++ (0 ∷ [])) e ∙ replicate-append-replicate (i - 300) 1 0 ∙ ap (λ (k : ℕ). replicate k 0) m
+cleared l os ps n h e f =
+    let front = take 300 l in
+    let k : 300 ≡ length front = sym (length-take-le 300 l h) in
+    let none : os ≡ replicate 159 0 = f ∙ ap (λ (j : ℕ). replicate j 0) e in (
+      ap (λ (j : ℕ). take j (front ++ (os ++ ps))) k ∙ take-append_seam front (os ++ ps),
+      ap (drop 300) (ap (λ (j : ℕ). take (j + 159) (front ++ (os ++ ps))) k ∙ take-append-add front (os ++ ps) 159)
+          ∙ ap (λ (j : ℕ). drop j (front ++ take 159 (os ++ ps))) k ∙ drop-append_seam front (take 159 (os ++ ps))
+          ∙ ap (λ (z : List ℕ). take 159 (z ++ ps)) none,
+    )
 
 module _ (l : List ℕ) (ended : drop 300 (take 459 l) ≡ zeros 159) (long : length l ≡ 1900) where
   -- nothing is added past the last 300
@@ -270,29 +271,49 @@ module _ (l : List ℕ) (ended : drop 300 (take 459 l) ≡ zeros 159) (long : le
       ap spread (sym (take-append-drop 300 (take 459 l)) ∙ ap₂ (λ (a b : List ℕ). a ++ b) (take-take 300 459 l (omega arith)) ended)
       ∙ spread-zeros (take 300 l) 159 n
 
-  pub mixed_done : (at i : ℕ) (bs m : List ℕ) → i ≡ 304 → length m ≡ 304 → at + 304 ≡ length bs
-      → bytes_in (bit_xor (bytes_in 0 (take i m)) (spread (drop i (take 459 l)))) (drop (at + i) bs) ≡ bytes_in (spread (take 459 l)) (drop at bs)
-      → bytes_in 0 m ≡ bytes_in (spread (take 300 l)) (drop at bs)
-  mixed_done at i bs m e n end h =
+  pub mixed_done : (bs m : List ℕ) → length m ≡ 304 → length bs ≡ 304 → ((k : ℕ) → k < 304 → get_or m k 0 ≡ bit_xor (reach l k) (get_or bs k 0))
+      → bytes_in 0 m ≡ bytes_in (spread (take 300 l)) bs
+  unfolding bytes_in
+  mixed_done bs m n end each =
       sym
-      (ap (λ (k : ℕ). bytes_in (bit_xor (bytes_in 0 (take k m)) (spread (drop k (take 459 l)))) (drop (at + k) bs)) e
-      ∙ ap₂ (λ (r k : ℕ). bytes_in r (drop k bs)) (ap₂ bit_xor (ap (bytes_in 0) (ap (λ (k : ℕ). take k m) (sym n) ∙ take-length m)) nothing_added ∙ xor_zero_r (bytes_in 0 m)) end
-      ∙ sym (none_left bs (length bs) (bytes_in 0 m) refl))
-      ∙ h ∙ ap (λ (r : ℕ). bytes_in r (drop at bs)) as_read
+      (ap₂ (λ (r k : ℕ). bytes_in r (drop k bs)) (ap₂ bit_xor (ap (bytes_in 0) (ap (λ (k : ℕ). take k m) (sym n) ∙ take-length m)) nothing_added ∙ xor_zero_r (bytes_in 0 m)) (sym end)
+      ∙ ap (bytes_in (bytes_in 0 m)) (drop-length bs))
+      ∙ mixed_so_far bs (take 459 l) m 304 n end (λ k h. each k h ∙ ap (λ (y : ℕ). bit_xor y (get_or bs k 0)) (sym (reach-take 459 l k (omega (arith, h))))) 304 (omega arith)
+      ∙ ap (λ (r : ℕ). bytes_in r bs) as_read
 
-four_placed : (a b c d : ℕ) → spread (take 300 (set (set (set (set (replicate 1900 0) 0 a) 1 b) 2 c) 3 d)) ≡ above 8 a (above 8 b (above 8 c d))
+four_placed : (a b c d : ℕ) → spread (take 300 (a ∷ b ∷ c ∷ d ∷ replicate 1896 0)) ≡ above 8 a (above 8 b (above 8 c d))
 unfolding spread placed above
 four_placed a b c d = xor_zero_r (above 8 a (above 8 b (above 8 c (above 8 d 0)))) ∙ ap (λ (y : ℕ). above 8 a (above 8 b (above 8 c y))) (xor_zero_r d)
 
 -- the state as four bytes that left
-pub four_bytes : (s a b c d : ℕ) → a < 2 ^ 8 → b < 2 ^ 8 → c < 2 ^ 8 → ((d * 2 ^ 8 + c) * 2 ^ 8 + b) * 2 ^ 8 + a ≡ s
-    → spread (take 300 (set (set (set (set (replicate 1900 0) 0 a) 1 b) 2 c) 3 d)) ≡ s
-four_bytes s a b c d ha hb hc e =
-    four_placed a b c d
-    ∙ ap (above 8 a) (ap (above 8 b) (above-number 8 c d hc) ∙ above-number 8 b (d * 2 ^ 8 + c) hb) ∙ above-number 8 a ((d * 2 ^ 8 + c) * 2 ^ 8 + b) ha ∙ e
+pub four_bytes : (s : ℕ) (bs : List ℕ) → s < 2 ^ 32 → bs ≡ to_le_bytes w32 s → spread (take 300 (bs ++ replicate 1896 0)) ≡ s
+four_bytes s bs h e =
+    let a = s % 256 in
+    let b = s / 256 % 256 in
+    let c = s / 65536 % 256 in
+    let d = s / 16777216 % 256 in
+    let whole : ((d * 2 ^ 8 + c) * 2 ^ 8 + b) * 2 ^ 8 + a ≡ s = omega arith in
+    ap (λ (l : List ℕ). spread (take 300 (l ++ replicate 1896 0))) e
+    ∙ four_placed a b c d
+    ∙ ap (above 8 a) (ap (above 8 b) (above-number 8 c d (omega arith)) ∙ above-number 8 b (d * 2 ^ 8 + c) (omega arith))
+    ∙ above-number 8 a ((d * 2 ^ 8 + c) * 2 ^ 8 + b) (omega arith) ∙ whole
 
--- a block has left: k is the list after `fill`, and m after `slide`
-pub block_left : (bs l k m : List ℕ) (at n x : ℕ) → m ≡ take 300 (drop n k)
-    → bytes_in (spread (take 300 (drop n k))) (drop (at + n) bs) ≡ bytes_in (spread l) (drop at bs) → bytes_in (spread l) (drop at bs) ≡ x
-    → bytes_in (spread m) (drop (at + n) bs) ≡ x
-block_left bs l k m at n x e p q = ap (λ (y : List ℕ). bytes_in (spread y) (drop (at + n) bs)) e ∙ p ∙ q
+-- ---- the blocks, and the last bytes behind them
+
+-- one more block has left: l is the list behind its bytes, and m what `slide` makes of it
+pub block_left : (bs done block rest next last l m : List ℕ) (p s : ℕ) → bs ≡ done ++ (rest ++ last) → rest ≡ block ++ next
+    → Same 300 p (bytes_in s done) → Same 300 (spread l) (bytes_in p block) → m ≡ l
+    → (ys : List ℕ) × (bs ≡ ys ++ (next ++ last)) × Same 300 (spread m) (bytes_in s ys)
+block_left bs done block rest next last l m p s e f same left g = (
+  done ++ block,
+  e ∙ ap (λ (z : List ℕ). done ++ z) (ap (λ (z : List ℕ). z ++ last) f ∙ append_assoc block next last) ∙ sym (append_assoc done block (next ++ last)),
+  same_more 300 p (spread m) (bytes_in s done) (bytes_in s (done ++ block)) block same (λ ys h. ap (λ (z : List ℕ). bytes_in (spread z) ys) g ∙ left ys h)
+      (sym (bytes-append s done block)),
+)
+
+-- all have left, and r is the register after the last bytes and what is added to them
+pub blocks_done : (bs done rest last : List ℕ) (p q r s : ℕ) → length rest ≡ 0 → 300 ≤ length last → bs ≡ done ++ (rest ++ last)
+    → Same 300 p (bytes_in s done) → q ≡ p → r ≡ bytes_in q last → r ≡ bytes_in s bs
+blocks_done bs done [] last p q r s n h e same f g =
+    g ∙ ap (λ (x : ℕ). bytes_in x last) f ∙ same last h ∙ sym (ap (bytes_in s) e ∙ bytes-append s done last)
+blocks_done bs done (x ∷ rest) last p q r s n h e same f g = absurd (suc-ne-zero (length rest) n)

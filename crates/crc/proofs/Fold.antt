@@ -98,16 +98,18 @@ near_folded = folded 64 81 119 147 236 300 refl 40 (omega arith)
 -- ---- near copies, by words
 
 five : ℕ → ℕ → ℕ → ℕ → ℕ → ℕ
-five a b c d e = above 64 a (above 64 b (above 64 c (above 64 d e)))
+five a b c d e = above 64 a (above 64 b (above 64 c (above 64 d (above 64 e 0))))
 
 five_xor : (a b c d e a' b' c' d' e' : ℕ)
     → bit_xor (five a b c d e) (five a' b' c' d' e') ≡ five (bit_xor a a') (bit_xor b b') (bit_xor c c') (bit_xor d d') (bit_xor e e')
 unfolding five
 five_xor a b c d e a' b' c' d' e' =
-    above_xor 64 a (above 64 b (above 64 c (above 64 d e))) a' (above 64 b' (above 64 c' (above 64 d' e')))
+    above_xor 64 a _ a' _
     ∙ ap (above 64 (bit_xor a a'))
-    (above_xor 64 b (above 64 c (above 64 d e)) b' (above 64 c' (above 64 d' e'))
-    ∙ ap (above 64 (bit_xor b b')) (above_xor 64 c (above 64 d e) c' (above 64 d' e') ∙ ap (above 64 (bit_xor c c')) (above_xor 64 d e d' e')))
+    (above_xor 64 b _ b' _
+    ∙ ap (above 64 (bit_xor b b'))
+    (above_xor 64 c _ c' _
+    ∙ ap (above 64 (bit_xor c c')) (above_xor 64 d _ d' _ ∙ ap (above 64 (bit_xor d d')) (above_xor 64 e 0 e' 0))))
 
 -- a word moved up by a whole word, and by less
 up_word : (x u : ℕ) → x * (u * 2 ^ 64) ≡ above 64 0 (x * u)
@@ -131,7 +133,7 @@ module _ (x : ℕ) (h : x < 2 ^ 64) where
   near_55 = up_word x (2 ^ 55) ∙ ap (above 64 0) (two-words (x * 2 ^ 55) (x * 2 ^ 55 % 2 ^ 64) (x / 2 ^ 9) (omega arith) (omega arith) ∙ then-none (x * 2 ^ 55 % 2 ^ 64) (x / 2 ^ 9))
 
   near_19 : x * 2 ^ 147 ≡ five 0 0 (x * 2 ^ 19 % 2 ^ 64) (x / 2 ^ 45) 0
-  unfolding five
+  unfolding five above
   near_19 =
       up_word x (2 ^ 83)
       ∙ ap (above 64 0)
@@ -143,19 +145,19 @@ module _ (x : ℕ) (h : x < 2 ^ 64) where
       up_word x (2 ^ 172)
       ∙ ap (above 64 0)
       (up_word x (2 ^ 108)
-      ∙ ap (above 64 0) (up_word x (2 ^ 44) ∙ ap (above 64 0) (two-words (x * 2 ^ 44) (x * 2 ^ 44 % 2 ^ 64) (x / 2 ^ 20) (omega arith) (omega arith))))
+      ∙ ap (above 64 0) (up_word x (2 ^ 44) ∙ ap (above 64 0) (two-words (x * 2 ^ 44) (x * 2 ^ 44 % 2 ^ 64) (x / 2 ^ 20) (omega arith) (omega arith) ∙ then-none (x * 2 ^ 44 % 2 ^ 64) (x / 2 ^ 20))))
 
   -- what `push` computes
   pub near-words : (b c d e : ℕ)
       → above 64 b
       (above 64 (bit_xor c (bit_xor (x * 2 ^ 17 % 2 ^ 64) (x * 2 ^ 55 % 2 ^ 64)))
       (above 64 (bit_xor d (bit_xor (x / 2 ^ 47) (bit_xor (x / 2 ^ 9) (x * 2 ^ 19 % 2 ^ 64))))
-      (above 64 (bit_xor e (bit_xor (x / 2 ^ 45) (x * 2 ^ 44 % 2 ^ 64))) (x / 2 ^ 20))))
-      ≡ bit_xor (above 64 b (above 64 c (above 64 d e))) (near x)
+      (above 64 (bit_xor e (bit_xor (x / 2 ^ 45) (x * 2 ^ 44 % 2 ^ 64))) (above 64 (x / 2 ^ 20) 0))))
+      ≡ bit_xor (above 64 b (above 64 c (above 64 d (above 64 e 0)))) (near x)
   unfolding near copies five
   near-words b c d e =
       sym
-      (ap₂ bit_xor (ap (λ (y : ℕ). above 64 b (above 64 c (above 64 d y))) (sym (above_zero 64 e)))
+      (ap₂ bit_xor (ap (λ (y : ℕ). above 64 b (above 64 c (above 64 d (above 64 e y)))) (sym (above_zero 64 0)))
       (ap₂ bit_xor near_17
       (ap₂ bit_xor near_55
       (ap₂ bit_xor near_19 near_44 ∙ five_xor 0 0 _ _ 0 0 0 0 _ _)

@@ -2,8 +2,7 @@
 -- bits that wait for their byte: they may be added to the register now or to the bytes then. Assumes nothing.
 use Rattle.std.specs.Prelude.{◌≡◌, List, [], ◌∷◌, ℕ, ◌+◌, ◌*◌, ◌^◌, ◌≤◌, length, get_or, drop, replicate}
 use Rattle.std.specs.Int.Bits.{bit_xor}
-use Rattle.crc.specs.Crc.{shifts, bytes_in}
-use Rattle.crc.specs.declared.Pending.{Pending}
+use Rattle.crc.specs.Crc.{bytes_in}
 
 -- the number of a list of bytes, the low byte first
 abbrev pub le : List ℕ → ℕ
@@ -15,20 +14,17 @@ unfoldable pub above : ℕ → ℕ → ℕ → ℕ
 above k a h = bit_xor a (h * 2 ^ k)
 
 -- the number of the words that wait
-abbrev pub number : Pending → ℕ
-number p = above 64 p.a (above 64 p.b (above 64 p.c (above 64 p.d p.e)))
+abbrev pub number : List ℕ → ℕ
+number [] = 0
+number (w ∷ ws) = above 64 w (number ws)
 
 -- two registers of which n bytes or more make the same
 abbrev pub Same : ℕ → ℕ → ℕ → Type 0
 Same n r s = (bs : List ℕ) → n ≤ length bs → bytes_in r bs ≡ bytes_in s bs
 
--- w is the word of bs at i: 64 shifts of a register with it are the register after eight bytes
-abbrev pub Word : List ℕ → ℕ → ℕ → Type 0
-Word bs i w = (s : ℕ) → bytes_in (shifts 64 (bit_xor s w)) (drop (i + 8) bs) ≡ bytes_in s (drop i bs)
-
--- r is the register after the word of bs at i, where s was the register and the word v waited for it; what waits above v comes down
-abbrev pub Met : List ℕ → ℕ → ℕ → ℕ → ℕ → Type 0
-Met bs i s v r = (h : ℕ) → bytes_in (bit_xor r h) (drop (i + 8) bs) ≡ bytes_in (bit_xor s (above 64 v h)) (drop i bs)
+-- r is the register after the bytes of a word, where s was the register and v waited for it; what waits above v comes down
+abbrev pub Met : List ℕ → ℕ → ℕ → ℕ → Type 0
+Met bs s v r = (h : ℕ) → bit_xor r h ≡ bytes_in (bit_xor s (above 64 v h)) bs
 
 -- the sum of a list of bytes, each in its place, the low one first: `le`, bit by bit
 unfoldable pub placed : List ℕ → ℕ

@@ -1,23 +1,18 @@
 -- Many operations in one call: they work one behind the other, up to the first that is refused, and are counted. Assumes nothing.
-use Rattle.std.specs.Prelude.{ℕ, zero, suc, ◌+◌, true, List, length}
+use Rattle.std.specs.Prelude.{ℕ, zero, suc, ◌+◌, ◌≡◌, true, List, length, Result, Ok, Err, Option, Some, None}
+use Rattle.std.specs.Borrow.{MutBor}
 use Rattle.queue.specs.Element.{payload_at}
 use Rattle.queue.specs.Opening.{open_queue}
 use Rattle.queue.specs.Peek.{judge_peek, peeked_output}
 use Rattle.queue.specs.Iter.{start_of, judge_step, stepped_output}
 use Rattle.queue.specs.declared.state.Settings.{Settings}
 use Rattle.queue.specs.declared.state.QueueFile.{QueueFile}
-use Rattle.queue.specs.declared.opening.Opened as Opening
-use Rattle.queue.specs.declared.opening.Opened.TheVariants as Opened
-use Rattle.queue.specs.declared.peek.Peeked as Peek
-use Rattle.queue.specs.declared.peek.Peeked.TheVariants as Peeked
 use Rattle.queue.specs.declared.iter.Cursor.{Cursor}
-use Rattle.queue.specs.declared.iter.Stepped as Iterating
-use Rattle.queue.specs.declared.iter.Stepped.TheVariants as Stepped
 use Rattle.writing.specs.Adding.{add_of}
 use Rattle.writing.specs.Removal.{remove_of}
 use Rattle.writing.specs.Clearing.{clear_of}
-use Rattle.writing.specs.declared.answer.Changed.{Changed}
-use Rattle.writing.specs.declared.answer.Changed.TheVariants.{Queue, Refused}
+use Rattle.refusal.specs.declared.Refusal.{Refusal}
+use Rattle.queue.specs.declared.iter.Step.{Step}
 
 -- how many operations were carried out, and the image or the output then
 abbrev pub Run : Type 0
@@ -30,26 +25,33 @@ abbrev pub settings_of : ℕ → Settings
 settings_of real = record { capacity = real; overwrite_on_remove = true }
 
 -- where the image does not open, nothing is carried out and nothing is changed
-abbrev pub on_opened : Opening.Opened → List ℕ → (QueueFile → Run) → Run
-on_opened (Opened.Queue q) bytes next = next q
-on_opened (Opened.Refused r) bytes next = (0, bytes)
+abbrev pub on_opened : Result QueueFile Refusal → List ℕ → (QueueFile → Run) → Run
+on_opened (Ok q) bytes next = next q
+on_opened (Err r) bytes next = (0, bytes)
 
-abbrev pub opened : List ℕ → ℕ → Opening.Opened
+abbrev pub opened : List ℕ → ℕ → Result QueueFile Refusal
 opened img real = open_queue img real (settings_of real)
 
 -- ---- operations that change it
 
 -- behind an operation with that answer and that image
-abbrev pub on_changed : Changed → List ℕ → ℕ → (QueueFile → List ℕ → Run) → Run
-on_changed (Queue q) img done next = next q img
-on_changed (Refused r) img done next = (done, img)
+abbrev pub on_changed : Result QueueFile Refusal → List ℕ → ℕ → (QueueFile → List ℕ → Run) → Run
+on_changed (Ok q) img done next = next q img
+on_changed (Err r) img done next = (done, img)
+
+-- what a call answers, and leaves in the image that it is lent, is what the operation says
+abbrev pub Follows :
+    (QueueFile → MutBor (List ℕ) → Result QueueFile Refusal → MutBor (List ℕ) → Type 0) →
+    (QueueFile → List ℕ → Result QueueFile Refusal × List ℕ) → Type 0
+Follows call op = (q : QueueFile) (image : MutBor (List ℕ)) (r : Result QueueFile Refusal) (left : MutBor (List ℕ)) →
+    call q image r left → (r, left.now) ≡ op q image.now
 
 -- the operation as often as is left, on a queue and an image that `done` of them have come to
-unfoldable pub run_from : (QueueFile → List ℕ → Changed × List ℕ) → ℕ → ℕ → QueueFile → List ℕ → Run
+unfoldable pub run_from : (QueueFile → List ℕ → Result QueueFile Refusal × List ℕ) → ℕ → ℕ → QueueFile → List ℕ → Run
 run_from op zero done q img = (done, img)
 run_from op (suc left) done q img = on_changed (op q img).0 (op q img).1 done (run_from op left (done + 1))
 
-abbrev pub run_of : (QueueFile → List ℕ → Changed × List ℕ) → ℕ → ℕ → List ℕ → Run
+abbrev pub run_of : (QueueFile → List ℕ → Result QueueFile Refusal × List ℕ) → ℕ → ℕ → List ℕ → Run
 run_of op n real img = on_opened (opened img real) img (λ q. run_from op n 0 q img)
 
 abbrev pub adds_of : List ℕ → ℕ → ℕ → List ℕ → Run
@@ -65,10 +67,10 @@ clears_of = run_of clear_of
 -- ---- operations that read it
 
 -- behind a peek with that answer and that output
-abbrev pub on_peeked : Peek.Peeked → List ℕ → ℕ → (List ℕ → Run) → Run
-on_peeked (Peeked.Payload n) out done next = next out
-on_peeked Peeked.Empty out done next = (done, out)
-on_peeked (Peeked.Refused r) out done next = (done, out)
+abbrev pub on_peeked : Result (Option ℕ) Refusal → List ℕ → ℕ → (List ℕ → Run) → Run
+on_peeked (Ok (Some n)) out done next = next out
+on_peeked (Ok None) out done next = (done, out)
+on_peeked (Err r) out done next = (done, out)
 
 abbrev pub output_peeked : QueueFile → List ℕ → List ℕ → List ℕ
 output_peeked q img out = peeked_output (judge_peek q img (length out)) (payload_at img q.file_len q.first) out
@@ -82,10 +84,10 @@ abbrev pub peeks_of : List ℕ → ℕ → ℕ → List ℕ → Run
 peeks_of img real n out = on_opened (opened img real) out (λ q. peeks_from q img n 0 out)
 
 -- behind a step with that answer and that output
-abbrev pub on_stepped : Iterating.Stepped → List ℕ → ℕ → (Cursor → List ℕ → Run) → Run
-on_stepped (Stepped.Element s) out done next = next s.next out
-on_stepped Stepped.End out done next = (done, out)
-on_stepped (Stepped.Refused r) out done next = (done, out)
+abbrev pub on_stepped : Result (Option Step) Refusal → List ℕ → ℕ → (Cursor → List ℕ → Run) → Run
+on_stepped (Ok (Some s)) out done next = next s.next out
+on_stepped (Ok None) out done next = (done, out)
+on_stepped (Err r) out done next = (done, out)
 
 abbrev pub output_stepped : QueueFile → List ℕ → Cursor → List ℕ → List ℕ
 output_stepped q img c out = stepped_output (judge_step q img c (length out)) img q.file_len out

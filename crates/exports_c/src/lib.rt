@@ -3,9 +3,8 @@
 
 ghost use Rattle.std.specs.Prelude.{◌≡◌, length, ◌-◌};
 ghost use Rattle.crc.specs.Crc.{crc_of};
-ghost use Rattle.refusal.specs.Verdict.{verdict_refusal, after};
+ghost use Rattle.refusal.specs.Answer.{number_or_0, after};
 ghost use Rattle.ring.specs.Ring.{ring_read, ring_write, ring_erase, relocated, judge_ring, judge_relocation};
-ghost use Rattle.queue.specs.Opening.{opened_refusal};
 ghost use Rattle.exports.specs.Runs.{opened, adds_of, removes_of, clears_of, peeks_of, steps_of};
 
 #[unsafe(no_mangle)]
@@ -22,7 +21,7 @@ pub extern "C" fn port_ring_read(
     logical_pos: u64,
     buf: &mut [u8],
 ) -> u32
-    ensures value { result ≡ (verdict_refusal (judge_ring 8192 (length image.now) file_len)).number }
+    ensures value { result ≡ number_or_0 (judge_ring 8192 (length image.now) file_len) }
     ensures buf_after { buf.new ≡ after (judge_ring 8192 (length image.now) file_len) (ring_read 8192 (file_len - 8192) image.now logical_pos (length buf.old)) buf.old }
 {
     exports::port_ring_read(image, file_len, logical_pos, buf)
@@ -35,7 +34,7 @@ pub extern "C" fn port_ring_write(
     logical_pos: u64,
     buf: &[u8],
 ) -> u32
-    ensures value { result ≡ (verdict_refusal (judge_ring 8192 (length image.old) file_len)).number }
+    ensures value { result ≡ number_or_0 (judge_ring 8192 (length image.old) file_len) }
     ensures image_after { image.new ≡ after (judge_ring 8192 (length image.old) file_len) (ring_write 8192 (file_len - 8192) image.old logical_pos buf.now) image.old }
 {
     exports::port_ring_write(image, file_len, logical_pos, buf)
@@ -48,7 +47,7 @@ pub extern "C" fn port_ring_erase(
     logical_pos: u64,
     len: u64,
 ) -> u32
-    ensures value { result ≡ (verdict_refusal (judge_ring 8192 (length image.old) file_len)).number }
+    ensures value { result ≡ number_or_0 (judge_ring 8192 (length image.old) file_len) }
     ensures image_after { image.new ≡ after (judge_ring 8192 (length image.old) file_len) (ring_erase 8192 (file_len - 8192) image.old logical_pos len) image.old }
 {
     exports::port_ring_erase(image, file_len, logical_pos, len)
@@ -56,7 +55,7 @@ pub extern "C" fn port_ring_erase(
 
 #[unsafe(no_mangle)]
 pub extern "C" fn port_relocate(image: &mut [u8], orig_file_len: u64, moved_count: u64) -> u32
-    ensures value { result ≡ (verdict_refusal (judge_relocation 8192 (length image.old) orig_file_len moved_count)).number }
+    ensures value { result ≡ number_or_0 (judge_relocation 8192 (length image.old) orig_file_len moved_count) }
     ensures image_after { image.new ≡ after (judge_relocation 8192 (length image.old) orig_file_len moved_count) (relocated 8192 image.old orig_file_len moved_count) image.old }
 {
     exports::port_relocate(image, orig_file_len, moved_count)
@@ -64,7 +63,7 @@ pub extern "C" fn port_relocate(image: &mut [u8], orig_file_len: u64, moved_coun
 
 #[unsafe(no_mangle)]
 pub extern "C" fn port_open(image: &[u8], real_len: u64) -> u32
-    ensures { result ≡ (opened_refusal (opened image.now real_len)).number }
+    ensures { result ≡ number_or_0 (opened image.now real_len) }
 {
     exports::port_open(image, real_len)
 }

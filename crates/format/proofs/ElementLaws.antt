@@ -6,19 +6,18 @@ use mathlib.Core.List.{List, [], ◌∷◌, ◌++◌}
 use Prim.Native.Nat.{ℕ, ◌^◌, ◌≤◌, ◌<◌}
 use native.Mathlib.Omega.{arith}
 use borrow.Author.Tests.{le-leb, lt-ltb, eq-eqb, ne_eqb, leb-true, ltb-true, eqb-true, eqb-false, not-true}
-use lib.ListN.{length, take}
+use lib.ListN.{length, take, replicate}
 use lib.Seq.{take-add}
 use Rattle.refusal.specs.declared.Refusal.{Refusal}
-use Rattle.refusal.specs.declared.Verdict.TheVariants as Verdict
 use Rattle.refusal.proofs.Laws.{met, granted, refused, keep}
 use Rattle.wire.specs.Wire.{Bytes, be, word}
 use Rattle.wire.proofs.Numbers.{bytes-layout, append-both, be_val-be, be-word, bytes_at_part, starts_with-take}
 use Rattle.crc.specs.Crc.{crc_of}
 use Rattle.crc.proofs.Limits.{crc_of_lt}
-use Rattle.format.specs.Element.{header_start, header_fields, header_bytes, encode_header, element_span, parse_header, footer_start, footer_fields, footer_bytes, check_footer}
+use Rattle.format.specs.Element.{header_start, header_fields, header_bytes, encode_header, stored_header, element_span, parse_header, footer_start, footer_fields, footer_bytes, check_footer}
 use Rattle.format.specs.declared.element.V2ElementHeader.{V2ElementHeader}
-use Rattle.format.specs.declared.element.EncodedHeader.{EncodedHeader}
-use Rattle.format.specs.declared.element.ParsedHeader.TheVariants.{Header, Refused}
+use Rattle.std.specs.Prelude.{Result, Ok}
+use Rattle.std.specs.Result.{result_unwrap_or}
 
 -- ---- the header's bytes
 
@@ -29,17 +28,27 @@ pub bytes-header_bytes : (seq prev len : ℕ) → Bytes (header_bytes seq prev l
 bytes-header_bytes seq prev len =
     bytes-layout ((4, 0x4954_4844) ∷ (8, seq) ∷ (8, prev) ∷ (4, len) ∷ (4, crc_of (header_fields seq prev len)) ∷ [])
 
--- an encoder that refuses gives as many zeros
-pub length_encoded_header : (seq prev len : ℕ) → length (encode_header seq prev len).bytes ≡ 28
-length_encoded_header seq prev len = keep (λ (r : EncodedHeader). length r.bytes ≡ 28) _ _ _ refl (λ _. refl)
-
-pub bytes_encoded_header : (seq prev len : ℕ) → Bytes (encode_header seq prev len).bytes
-bytes_encoded_header seq prev len =
-    keep (λ (r : EncodedHeader). Bytes r.bytes) _ _ _ (bytes-layout ((28, 0) ∷ [])) (λ _. bytes-header_bytes seq prev len)
-
 -- within its limit the encoder gives the bytes
-pub header_granted : (seq prev len : ℕ) → len < 2 ^ 31 → encode_header seq prev len ≡ record { answer = Verdict.Granted; bytes = header_bytes seq prev len }
+pub header_granted : (seq prev len : ℕ) → len < 2 ^ 31 → encode_header seq prev len ≡ Ok (header_bytes seq prev len)
 header_granted seq prev len h = sym (met _ _ _ (lt-ltb len (2 ^ 31) h) refl)
+
+-- it gives these bytes or none
+-- 28 bytes, also where zeros stand in for what is refused, as they do where a header is stored
+pub length_encoded_header : (seq prev len : ℕ) → length (result_unwrap_or (encode_header seq prev len) (replicate 28 0)) ≡ 28
+length_encoded_header seq prev len =
+    keep (λ (r : Result (List ℕ) Refusal). length (result_unwrap_or r (replicate 28 0)) ≡ 28) _ _ _ refl (λ _. refl)
+
+pub bytes_encoded_header : (seq prev len : ℕ) → Bytes (result_unwrap_or (encode_header seq prev len) (replicate 28 0))
+bytes_encoded_header seq prev len =
+    keep (λ (r : Result (List ℕ) Refusal). Bytes (result_unwrap_or r (replicate 28 0))) _ _ _ (bytes-layout ((28, 0) ∷ []))
+    (λ _. bytes-header_bytes seq prev len)
+
+pub length_stored_header : (seq prev len : ℕ) → length (stored_header seq prev len) ≡ 28
+length_stored_header seq prev len = length_encoded_header seq prev len
+
+pub header_stored : (seq prev len : ℕ) → len < 2 ^ 31 → stored_header seq prev len ≡ header_bytes seq prev len
+header_stored seq prev len h =
+    ap (λ (r : Result (List ℕ) Refusal). result_unwrap_or r (replicate 28 0)) (header_granted seq prev len h)
 
 -- ---- the header: parse after encode
 
@@ -58,7 +67,7 @@ module _ (seq prev len capacity : ℕ) where
 
   pub header_parse_encode :
       0 < seq → seq < 2 ^ 64 → prev < 2 ^ 64 → len < 2 ^ 31 → element_span len ≤ capacity →
-      parse_header (header_bytes seq prev len) capacity ≡ Header (record { payload_len = len; seq = seq; prev_pos = prev })
+      parse_header (header_bytes seq prev len) capacity ≡ Ok (record { payload_len = len; seq = seq; prev_pos = prev })
   header_parse_encode pos hs hp hl fits =
       sym
       (met _ _ _ refl
@@ -70,10 +79,6 @@ module _ (seq prev len capacity : ℕ) where
       (rw (n hl, q hs, p hp))))))))
 
 -- ---- the header: encode after parse
-
--- a refusal is not a header
-pub no_header : {r : Refusal} {h : V2ElementHeader} → Refused r ≡ Header h → ⊥
-no_header e = let z : ◌≡◌ {A = ℕ} 0 1 = cc in omega arith
 
 -- what bytes that parse to h have
 pub record Parsed (s : List ℕ) (capacity : ℕ) (h : V2ElementHeader) : Type 0 where
@@ -87,14 +92,14 @@ pub record Parsed (s : List ℕ) (capacity : ℕ) (h : V2ElementHeader) : Type 0
   pub small : h.payload_len < 2 ^ 31
   pub fits : element_span h.payload_len ≤ capacity
 
-pub parsed : (s : List ℕ) (capacity : ℕ) (h : V2ElementHeader) → parse_header s capacity ≡ Header h → Parsed s capacity h
+pub parsed : (s : List ℕ) (capacity : ℕ) (h : V2ElementHeader) → parse_header s capacity ≡ Ok h → Parsed s capacity h
 parsed s capacity h e =
-    let g1 = granted _ _ _ _ no_header e in
-    let g2 = granted _ _ _ _ no_header g1.1 in
-    let g3 = granted _ _ _ _ no_header g2.1 in
-    let g4 = granted _ _ _ _ no_header g3.1 in
-    let g5 = granted _ _ _ _ no_header g4.1 in
-    let g6 = granted _ _ _ _ no_header g5.1 in
+    let g1 = granted _ _ _ _ refused e in
+    let g2 = granted _ _ _ _ refused g1.1 in
+    let g3 = granted _ _ _ _ refused g2.1 in
+    let g4 = granted _ _ _ _ refused g3.1 in
+    let g5 = granted _ _ _ _ refused g4.1 in
+    let g6 = granted _ _ _ _ refused g5.1 in
     let i : record { payload_len = word 4 s 20; seq = word 8 s 4; prev_pos = word 8 s 12 } ≡ h = cc g6.1 in
     let n : word 4 s 20 ≡ h.payload_len = ap (λ (x : V2ElementHeader). x.payload_len) i in
     let q : word 8 s 4 ≡ h.seq = ap (λ (x : V2ElementHeader). x.seq) i in
@@ -112,7 +117,7 @@ parsed s capacity h e =
       fits = rw n at (leb-true (element_span (word 4 s 20)) capacity g6.0);
     }
 
-module _ (s : List ℕ) (capacity : ℕ) (h : V2ElementHeader) (b : Bytes s) (e : parse_header s capacity ≡ Header h) where
+module _ (s : List ℕ) (capacity : ℕ) (h : V2ElementHeader) (b : Bytes s) (e : parse_header s capacity ≡ Ok h) where
   fields : take 24 s ≡ header_fields h.seq h.prev_pos h.payload_len
   fields =
       let w = parsed s capacity h e in
@@ -142,7 +147,7 @@ pub bytes-footer_bytes : (seq : ℕ) (payload : List ℕ) → Bytes (footer_byte
 bytes-footer_bytes seq payload = bytes-layout ((4, 0x4954_4654) ∷ (8, seq) ∷ (4, crc_of (payload ++ footer_fields seq)) ∷ [])
 
 -- the footer that is encoded for an element is valid for it
-pub footer_check_encode : (seq : ℕ) (payload : List ℕ) → seq < 2 ^ 64 → check_footer (footer_bytes seq payload) seq payload ≡ Verdict.Granted
+pub footer_check_encode : (seq : ℕ) (payload : List ℕ) → seq < 2 ^ 64 → check_footer (footer_bytes seq payload) seq payload ≡ Ok tt
 footer_check_encode seq payload h =
     sym
     (met _ _ _ refl
@@ -151,7 +156,7 @@ footer_check_encode seq payload h =
     (met _ _ _ (eq-eqb _ _ (be_val-be 4 (crc_of (payload ++ footer_fields seq)) (crc_of_lt (payload ++ footer_fields seq)))) refl))))
 
 -- what is valid for an element is the footer that is encoded for it
-pub footer_bytes_lem : (s : List ℕ) (seq : ℕ) (payload : List ℕ) → Bytes s → check_footer s seq payload ≡ Verdict.Granted → take 16 s ≡ footer_bytes seq payload
+pub footer_bytes_lem : (s : List ℕ) (seq : ℕ) (payload : List ℕ) → Bytes s → check_footer s seq payload ≡ Ok tt → take 16 s ≡ footer_bytes seq payload
 footer_bytes_lem s seq payload b e =
     let g1 = granted _ _ _ _ refused e in
     let g2 = granted _ _ _ _ refused g1.1 in

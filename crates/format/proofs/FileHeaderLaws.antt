@@ -8,32 +8,24 @@ use Prim.Native.Nat.{ℕ, ◌%◌, ◌^◌, ◌≤◌, ◌<◌}
 use native.Mathlib.Omega.{arith}
 use borrow.Author.Tests.{leb-true, leb-false, eqb-true}
 use lib.Dec.{leb}
-use lib.ListN.{length, take}
+use lib.ListN.{length, take, replicate}
 use Rattle.refusal.specs.declared.Refusal.{Refusal}
-use Rattle.refusal.specs.declared.Verdict as Answer
-use Rattle.refusal.specs.declared.Verdict.TheVariants as Verdict
-use Rattle.refusal.proofs.Laws.{met, granted}
+use Rattle.refusal.proofs.Laws.{met, granted, refused, same_answer, given_or}
+use Rattle.refusal.specs.Answer.{on_verdict}
 use Rattle.wire.specs.Wire.{Bytes, word}
 use Rattle.wire.proofs.Numbers.{bytes-layout, append-both, be_val-be, be-word, bytes_at_part, word_lt}
 use Rattle.header.specs.Slot.{judge_fields, Below}
 use Rattle.header.proofs.Fields.{below_granted}
-use Rattle.format.specs.FileHeader.{metadata, parsed_as, judge_metadata, legacy_bytes, encoded_legacy, encode_legacy, parse_legacy, v1_layout, v1_bytes, encoded_v1, encode_v1, version_of, parse_v1}
+use Rattle.format.specs.FileHeader.{metadata, judge_metadata, legacy_bytes, encode_legacy, parse_legacy, v1_layout, v1_bytes, encode_v1, version_of, parse_v1}
 use Rattle.format.specs.declared.file_header.QueueMetadata.{QueueMetadata}
-use Rattle.format.specs.declared.file_header.ParsedMetadata.TheVariants.{Metadata, Refused}
-
-differ : {r : Refusal} {m : QueueMetadata} → Refused r ≡ Metadata m → ⊥
-differ e = let z : ◌≡◌ {A = ℕ} 0 1 = cc in omega arith
+use Rattle.std.specs.Prelude.{Result, Ok, Err}
+use Rattle.std.specs.Result.{result_unwrap_or}
 
 -- fields below their limits are what is read
 judged : (limit file_len count first last : ℕ) → Below limit (2 ^ 31) file_len count first last →
-    judge_metadata limit file_len count first last ≡ Metadata (metadata file_len count first last)
+    judge_metadata limit file_len count first last ≡ Ok (metadata file_len count first last)
 judged limit file_len count first last below =
-    ap (λ (v : Answer.Verdict). parsed_as v (metadata file_len count first last)) (below_granted limit (2 ^ 31) file_len count first last below)
-
--- what is read are the fields
-same : (v : Answer.Verdict) (m m' : QueueMetadata) → parsed_as v m ≡ Metadata m' → m ≡ m'
-same Verdict.Granted m m' e = cc e
-same (Verdict.Refused r) m m' e = absurd (differ e)
+    ap (λ (v : Result (Unit {0}) Refusal). on_verdict Err v (Ok (metadata file_len count first last))) (below_granted limit (2 ^ 31) file_len count first last below)
 
 -- ---- Legacy
 
@@ -43,27 +35,23 @@ length-legacy_bytes file_len count first last = refl
 pub bytes-legacy_bytes : (file_len count first last : ℕ) → Bytes (legacy_bytes file_len count first last)
 bytes-legacy_bytes file_len count first last = bytes-layout ((4, file_len) ∷ (4, count) ∷ (4, first) ∷ (4, last) ∷ [])
 
--- an encoder that refuses gives as many zeros
-length_legacy : (v : Answer.Verdict) (file_len count first last : ℕ) → length (encoded_legacy v (legacy_bytes file_len count first last)).bytes ≡ 16
-length_legacy Verdict.Granted file_len count first last = refl
-length_legacy (Verdict.Refused r) file_len count first last = refl
-
-bytes_legacy : (v : Answer.Verdict) (file_len count first last : ℕ) → Bytes (encoded_legacy v (legacy_bytes file_len count first last)).bytes
-bytes_legacy Verdict.Granted file_len count first last = bytes-legacy_bytes file_len count first last
-bytes_legacy (Verdict.Refused r) file_len count first last = bytes-layout ((16, 0) ∷ [])
-
 module _ (file_len count first last : ℕ) where
-  pub length-encoded_legacy : length (encode_legacy file_len count first last).bytes ≡ 16
-  length-encoded_legacy = length_legacy (judge_fields (2 ^ 31) (2 ^ 31) file_len count first last) file_len count first last
+  -- an encoder gives these bytes or none
+  -- 16 bytes, also where zeros stand in for what is refused
+  pub length-encoded_legacy : length (result_unwrap_or (encode_legacy file_len count first last) (replicate 16 0)) ≡ 16
+  length-encoded_legacy =
+      given_or (λ (l : List ℕ). length l ≡ 16) (judge_fields (2 ^ 31) (2 ^ 31) file_len count first last) _ _ refl refl
 
-  pub bytes-encoded_legacy : Bytes (encode_legacy file_len count first last).bytes
-  bytes-encoded_legacy = bytes_legacy (judge_fields (2 ^ 31) (2 ^ 31) file_len count first last) file_len count first last
+  pub bytes-encoded_legacy : Bytes (result_unwrap_or (encode_legacy file_len count first last) (replicate 16 0))
+  bytes-encoded_legacy =
+      given_or Bytes (judge_fields (2 ^ 31) (2 ^ 31) file_len count first last) _ _
+      (bytes-legacy_bytes file_len count first last) (bytes-layout ((16, 0) ∷ []))
 
 module _ (file_len count first last : ℕ) (below : Below (2 ^ 31) (2 ^ 31) file_len count first last) where
   -- within the limits the encoder gives the bytes
-  pub legacy_granted : encode_legacy file_len count first last ≡ record { answer = Verdict.Granted; bytes = legacy_bytes file_len count first last }
+  pub legacy_granted : encode_legacy file_len count first last ≡ Ok (legacy_bytes file_len count first last)
   legacy_granted =
-      ap (λ (v : Answer.Verdict). encoded_legacy v (legacy_bytes file_len count first last))
+      ap (λ (v : Result (Unit {0}) Refusal). on_verdict Err v (Ok (legacy_bytes file_len count first last)))
       (below_granted (2 ^ 31) (2 ^ 31) file_len count first last below)
 
   n : word 4 (legacy_bytes file_len count first last) 0 ≡ file_len
@@ -78,16 +66,16 @@ module _ (file_len count first last : ℕ) (below : Below (2 ^ 31) (2 ^ 31) file
   q : word 4 (legacy_bytes file_len count first last) 12 ≡ last
   q = be_val-be 4 last (omega (arith, below.last))
 
-  pub legacy_parse_encode : parse_legacy (legacy_bytes file_len count first last) ≡ Metadata (metadata file_len count first last)
+  pub legacy_parse_encode : parse_legacy (legacy_bytes file_len count first last) ≡ Ok (metadata file_len count first last)
   legacy_parse_encode =
       sym (met _ _ _ refl (rw (n, c, p, q) (sym (judged (2 ^ 31) file_len count first last below))))
 
 -- what parses determines its bytes
-pub legacy_bytes_lem : (s : List ℕ) (m : QueueMetadata) → Bytes s → parse_legacy s ≡ Metadata m →
+pub legacy_bytes_lem : (s : List ℕ) (m : QueueMetadata) → Bytes s → parse_legacy s ≡ Ok m →
     take 16 s ≡ legacy_bytes m.file_len m.elem_cnt m.first_pos m.last_pos
 legacy_bytes_lem s m b e =
-    let g1 = granted _ _ _ _ differ e in
-    let i : metadata (word 4 s 0) (word 4 s 4) (word 4 s 8) (word 4 s 12) ≡ m = same (judge_fields (2 ^ 31) (2 ^ 31) (word 4 s 0) (word 4 s 4) (word 4 s 8) (word 4 s 12)) _ m g1.1 in
+    let g1 = granted _ _ _ _ refused e in
+    let i : metadata (word 4 s 0) (word 4 s 4) (word 4 s 8) (word 4 s 12) ≡ m = same_answer (judge_fields (2 ^ 31) (2 ^ 31) (word 4 s 0) (word 4 s 4) (word 4 s 8) (word 4 s 12)) _ m g1.1 in
     let long : 16 ≤ length s = leb-true 16 (length s) g1.0 in
     sym (bytes_at_part 16 s 0 (omega arith))
     ∙ append-both
@@ -104,27 +92,23 @@ pub bytes-v1_bytes : (file_len count first last : ℕ) → Bytes (v1_bytes file_
 bytes-v1_bytes file_len count first last =
     bytes-layout ((4, 0x8000_0001) ∷ (8, file_len) ∷ (4, count) ∷ (8, first) ∷ (8, last) ∷ [])
 
--- an encoder that refuses gives as many zeros
-length_v1 : (v : Answer.Verdict) (file_len count first last : ℕ) → length (encoded_v1 v (v1_bytes file_len count first last)).bytes ≡ 32
-length_v1 Verdict.Granted file_len count first last = refl
-length_v1 (Verdict.Refused r) file_len count first last = refl
-
-bytes_v1 : (v : Answer.Verdict) (file_len count first last : ℕ) → Bytes (encoded_v1 v (v1_bytes file_len count first last)).bytes
-bytes_v1 Verdict.Granted file_len count first last = bytes-v1_bytes file_len count first last
-bytes_v1 (Verdict.Refused r) file_len count first last = bytes-layout ((32, 0) ∷ [])
-
 module _ (file_len count first last : ℕ) where
-  pub length-encoded_v1 : length (encode_v1 file_len count first last).bytes ≡ 32
-  length-encoded_v1 = length_v1 (judge_fields (2 ^ 63) (2 ^ 31) file_len count first last) file_len count first last
+  -- an encoder gives these bytes or none
+  -- 32 bytes, also where zeros stand in for what is refused
+  pub length-encoded_v1 : length (result_unwrap_or (encode_v1 file_len count first last) (replicate 32 0)) ≡ 32
+  length-encoded_v1 =
+      given_or (λ (l : List ℕ). length l ≡ 32) (judge_fields (2 ^ 63) (2 ^ 31) file_len count first last) _ _ refl refl
 
-  pub bytes-encoded_v1 : Bytes (encode_v1 file_len count first last).bytes
-  bytes-encoded_v1 = bytes_v1 (judge_fields (2 ^ 63) (2 ^ 31) file_len count first last) file_len count first last
+  pub bytes-encoded_v1 : Bytes (result_unwrap_or (encode_v1 file_len count first last) (replicate 32 0))
+  bytes-encoded_v1 =
+      given_or Bytes (judge_fields (2 ^ 63) (2 ^ 31) file_len count first last) _ _
+      (bytes-v1_bytes file_len count first last) (bytes-layout ((32, 0) ∷ []))
 
 module _ (file_len count first last : ℕ) (below : Below (2 ^ 63) (2 ^ 31) file_len count first last) where
   -- within the limits the encoder gives the bytes
-  pub v1_granted : encode_v1 file_len count first last ≡ record { answer = Verdict.Granted; bytes = v1_bytes file_len count first last }
+  pub v1_granted : encode_v1 file_len count first last ≡ Ok (v1_bytes file_len count first last)
   v1_granted =
-      ap (λ (v : Answer.Verdict). encoded_v1 v (v1_bytes file_len count first last))
+      ap (λ (v : Result (Unit {0}) Refusal). on_verdict Err v (Ok (v1_bytes file_len count first last)))
       (below_granted (2 ^ 63) (2 ^ 31) file_len count first last below)
 
   vn : word 8 (v1_bytes file_len count first last) 4 ≡ file_len
@@ -139,7 +123,7 @@ module _ (file_len count first last : ℕ) (below : Below (2 ^ 63) (2 ^ 31) file
   vq : word 8 (v1_bytes file_len count first last) 24 ≡ last
   vq = be_val-be 8 last (omega (arith, below.last))
 
-  pub v1_parse_encode : parse_v1 (v1_bytes file_len count first last) ≡ Metadata (metadata file_len count first last)
+  pub v1_parse_encode : parse_v1 (v1_bytes file_len count first last) ≡ Ok (metadata file_len count first last)
   v1_parse_encode =
       sym (met _ _ _ refl (met _ _ _ refl (rw (vn, vc, vp, vq) (sym (judged (2 ^ 63) file_len count first last below)))))
 
@@ -148,18 +132,18 @@ top_or_not word true t h e = let l : 2 ^ 31 ≤ word = leb-true (2 ^ 31) word t 
 top_or_not word false t h e = let l : word < 2 ^ 31 = leb-false (2 ^ 31) word t in inr (omega arith)
 
 -- what parses determines its bytes, but for the version word's top bit
-module _ (s : List ℕ) (m : QueueMetadata) (b : Bytes s) (e : parse_v1 s ≡ Metadata m) where
+module _ (s : List ℕ) (m : QueueMetadata) (b : Bytes s) (e : parse_v1 s ≡ Ok m) where
   pub v1_version : (word 4 s 0 ≡ 0x8000_0001) ⊎ (word 4 s 0 ≡ 1)
   v1_version =
-      let g1 = granted _ _ _ _ differ e in
-      let g2 = granted _ _ _ _ differ g1.1 in
+      let g1 = granted _ _ _ _ refused e in
+      let g2 = granted _ _ _ _ refused g1.1 in
       top_or_not (word 4 s 0) (leb (2 ^ 31) (word 4 s 0)) refl (word_lt 4 s 0 b) (eqb-true (version_of s) 1 g2.0)
 
   pub v1_bytes_lem : take 32 s ≡ v1_layout (word 4 s 0) m.file_len m.elem_cnt m.first_pos m.last_pos
   v1_bytes_lem =
-      let g1 = granted _ _ _ _ differ e in
-      let g2 = granted _ _ _ _ differ g1.1 in
-      let i : metadata (word 8 s 4) (word 4 s 12) (word 8 s 16) (word 8 s 24) ≡ m = same (judge_fields (2 ^ 63) (2 ^ 31) (word 8 s 4) (word 4 s 12) (word 8 s 16) (word 8 s 24)) _ m g2.1 in
+      let g1 = granted _ _ _ _ refused e in
+      let g2 = granted _ _ _ _ refused g1.1 in
+      let i : metadata (word 8 s 4) (word 4 s 12) (word 8 s 16) (word 8 s 24) ≡ m = same_answer (judge_fields (2 ^ 63) (2 ^ 31) (word 8 s 4) (word 4 s 12) (word 8 s 16) (word 8 s 24)) _ m g2.1 in
       let long : 32 ≤ length s = leb-true 32 (length s) g1.0 in
       sym (bytes_at_part 32 s 0 (omega arith))
       ∙ append-both

@@ -1,13 +1,11 @@
 -- What a format says of the file and of its elements. Assumes nothing.
-use Rattle.std.specs.Prelude.{ℕ, ◌+◌, ◌^◌, ltb}
-use Rattle.refusal.specs.Table.{none, overflow}
+use Rattle.std.specs.Prelude.{ℕ, ◌+◌, ◌^◌, ltb, Result, Ok, Err}
+use Rattle.refusal.specs.declared.Refusal.TheVariants.{Overflow}
 use Rattle.refusal.specs.Demand.{demand}
 use Rattle.refusal.specs.declared.Refusal.{Refusal}
 use Rattle.format.specs.Element.{element_overhead}
 use Rattle.format.specs.declared.state.FormatState.{FormatState}
 use Rattle.format.specs.declared.state.FormatState.TheVariants.{Legacy, V1, V2}
-use Rattle.format.specs.declared.state.Span.{Span}
-use Rattle.format.specs.declared.state.Span.TheVariants.{Of, Refused}
 
 -- where the ring of elements starts in the file
 abbrev pub data_start : FormatState → ℕ
@@ -28,13 +26,8 @@ overhead V1 = 4
 overhead (V2 f) = element_overhead
 
 -- the payload's bytes and those beside it, where a u64 holds their number
-abbrev pub elem_span : FormatState → ℕ → Span
-elem_span f len = demand (ltb (len + overhead f) (2 ^ 64)) (Refused overflow) (Of (len + overhead f))
-
--- the number and two values of each answer
-abbrev pub span_refusal : Span → Refusal
-span_refusal (Of n) = none
-span_refusal (Refused r) = r
+abbrev pub elem_span : FormatState → ℕ → Result ℕ Refusal
+elem_span f len = demand (ltb (len + overhead f) (2 ^ 64)) (Err Overflow) (Ok (len + overhead f))
 
 -- the sequence that the next element gets; elements before V2 have none
 abbrev pub next_seq : FormatState → ℕ

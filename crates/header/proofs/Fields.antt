@@ -2,12 +2,12 @@
 use mathlib.Core.Path.{◌≡◌, refl, sym}
 use Prim.Native.Nat.{ℕ}
 use borrow.Author.Tests.{lt-ltb, ltb-true}
-use Rattle.refusal.specs.declared.Verdict.TheVariants.{Granted}
 use Rattle.refusal.proofs.Laws.{met, granted, refused}
 use Rattle.header.specs.Slot.{judge_fields, Below}
+use Rattle.std.specs.Prelude.{Ok}
 
 module _ (limit count_limit file_len count first last : ℕ) where
-  pub below_granted : Below limit count_limit file_len count first last → judge_fields limit count_limit file_len count first last ≡ Granted
+  pub below_granted : Below limit count_limit file_len count first last → judge_fields limit count_limit file_len count first last ≡ Ok tt
   below_granted b =
       sym
       (met _ _ _ (lt-ltb file_len limit b.length)
@@ -15,7 +15,7 @@ module _ (limit count_limit file_len count first last : ℕ) where
       (met _ _ _ (lt-ltb first limit b.first)
       (met _ _ _ (lt-ltb last limit b.last) refl))))
 
-  pub granted_below : judge_fields limit count_limit file_len count first last ≡ Granted → Below limit count_limit file_len count first last
+  pub granted_below : judge_fields limit count_limit file_len count first last ≡ Ok tt → Below limit count_limit file_len count first last
   granted_below e =
       let g1 = granted _ _ _ _ refused e in
       let g2 = granted _ _ _ _ refused g1.1 in

@@ -5,20 +5,20 @@ use mathlib.Core.List.{List, [], ◌∷◌}
 use Prim.Native.Nat.{ℕ, ◌^◌, ◌≤◌}
 use native.Mathlib.Omega.{arith}
 use borrow.Author.Tests.{lt-ltb, eq-eqb, leb-true, ltb-true, eqb-true}
-use lib.ListN.{length, take}
+use lib.ListN.{length, take, replicate}
 use lib.Seq.{take-add}
 use Rattle.refusal.specs.declared.Refusal.{Refusal}
-use Rattle.refusal.specs.declared.Verdict as Answer
-use Rattle.refusal.specs.declared.Verdict.TheVariants as Verdict
-use Rattle.refusal.proofs.Laws.{met, granted}
+use Rattle.refusal.proofs.Laws.{met, granted, refused, given_or}
+use Rattle.refusal.specs.Answer.{on_verdict}
 use Rattle.wire.specs.Wire.{Bytes, be, word}
 use Rattle.wire.proofs.Numbers.{bytes-layout, append-both, be_val-be, be-word, bytes_at_part, starts_with-take}
 use Rattle.crc.specs.Crc.{crc_of}
 use Rattle.crc.proofs.Limits.{crc_of_lt}
-use Rattle.header.specs.Slot.{Fits, Below, slot_start, slot_fields, slot_bytes, slot_data, judge_fields, encoded_slot, encode_slot, slot_at, parse_slot}
+use Rattle.header.specs.Slot.{Fits, Below, slot_start, slot_fields, slot_bytes, slot_data, judge_fields, encode_slot, slot_at, parse_slot}
 use Rattle.header.specs.declared.SlotData.{SlotData}
-use Rattle.header.specs.declared.ParsedSlot.TheVariants.{Slot, Refused}
 use Rattle.header.proofs.Fields.{below_granted}
+use Rattle.std.specs.Prelude.{Result, Ok, Err}
+use Rattle.std.specs.Result.{result_unwrap_or}
 
 -- ---- the bytes
 
@@ -38,30 +38,23 @@ bytes-slot_bytes d =
     ∷ (4, crc_of (slot_fields d))
     ∷ [])
 
--- an encoder that refuses gives as many zeros
-length_given : (v : Answer.Verdict) (d : SlotData) → length (encoded_slot v (slot_bytes d)).bytes ≡ 56
-length_given Verdict.Granted d = refl
-length_given (Verdict.Refused r) d = refl
-
-bytes_given : (v : Answer.Verdict) (d : SlotData) → Bytes (encoded_slot v (slot_bytes d)).bytes
-bytes_given Verdict.Granted d = bytes-slot_bytes d
-bytes_given (Verdict.Refused r) d = bytes-layout ((56, 0) ∷ [])
-
 module _ (file_len count first last generation next_seq : ℕ) where
-  pub length_encoded : length (encode_slot file_len count first last generation next_seq).bytes ≡ 56
+  -- an encoder gives these bytes or none
+  -- 56 bytes, also where zeros stand in for what is refused
+  pub length_encoded : length (result_unwrap_or (encode_slot file_len count first last generation next_seq) (replicate 56 0)) ≡ 56
   length_encoded =
-      length_given (judge_fields (2 ^ 63) (2 ^ 32) file_len count first last) (slot_data file_len count first last generation next_seq)
+      given_or (λ (l : List ℕ). length l ≡ 56) (judge_fields (2 ^ 63) (2 ^ 32) file_len count first last) _ _ refl refl
 
-  pub bytes_encoded : Bytes (encode_slot file_len count first last generation next_seq).bytes
+  pub bytes_encoded : Bytes (result_unwrap_or (encode_slot file_len count first last generation next_seq) (replicate 56 0))
   bytes_encoded =
-      bytes_given (judge_fields (2 ^ 63) (2 ^ 32) file_len count first last) (slot_data file_len count first last generation next_seq)
+      given_or Bytes (judge_fields (2 ^ 63) (2 ^ 32) file_len count first last) _ _
+      (bytes-slot_bytes (slot_data file_len count first last generation next_seq)) (bytes-layout ((56, 0) ∷ []))
 
   -- within its own limits the encoder gives the bytes
   pub encode_granted : Below (2 ^ 63) (2 ^ 32) file_len count first last →
-      encode_slot file_len count first last generation next_seq
-      ≡ record { answer = Verdict.Granted; bytes = slot_bytes (slot_data file_len count first last generation next_seq) }
+      encode_slot file_len count first last generation next_seq ≡ Ok (slot_bytes (slot_data file_len count first last generation next_seq))
   encode_granted b =
-      ap (λ (v : Answer.Verdict). encoded_slot v (slot_bytes (slot_data file_len count first last generation next_seq)))
+      ap (λ (v : Result (Unit {0}) Refusal). on_verdict Err v (Ok (slot_bytes (slot_data file_len count first last generation next_seq))))
       (below_granted (2 ^ 63) (2 ^ 32) file_len count first last b)
 
 -- ---- parse after encode
@@ -88,7 +81,7 @@ module _ (d : SlotData) (f : Fits d) where
   k : word 4 (slot_bytes d) 52 ≡ crc_of (take 52 (slot_bytes d))
   k = be_val-be 4 (crc_of (slot_fields d)) (crc_of_lt (slot_fields d))
 
-  pub parse_encode : parse_slot (slot_bytes d) ≡ Slot d
+  pub parse_encode : parse_slot (slot_bytes d) ≡ Ok d
   parse_encode =
       sym
       (met _ _ _ refl
@@ -104,9 +97,6 @@ module _ (d : SlotData) (f : Fits d) where
 
 -- ---- encode after parse
 
-differ : {r : Refusal} {d : SlotData} → Refused r ≡ Slot d → ⊥
-differ e = let z : ◌≡◌ {A = ℕ} 0 1 = cc in omega arith
-
 -- what bytes that parse have
 record Parsed (s : List ℕ) (d : SlotData) : Type 0 where
   pub long : 56 ≤ length s
@@ -115,17 +105,17 @@ record Parsed (s : List ℕ) (d : SlotData) : Type 0 where
   pub sums : word 4 s 52 ≡ crc_of (take 52 s)
   pub same : slot_at s ≡ d
 
-parsed : (s : List ℕ) (d : SlotData) → parse_slot s ≡ Slot d → Parsed s d
+parsed : (s : List ℕ) (d : SlotData) → parse_slot s ≡ Ok d → Parsed s d
 parsed s d e =
-    let g1 = granted _ _ _ _ differ e in
-    let g2 = granted _ _ _ _ differ g1.1 in
-    let g3 = granted _ _ _ _ differ g2.1 in
-    let g4 = granted _ _ _ _ differ g3.1 in
-    let g5 = granted _ _ _ _ differ g4.1 in
-    let g6 = granted _ _ _ _ differ g5.1 in
-    let g7 = granted _ _ _ _ differ g6.1 in
-    let g8 = granted _ _ _ _ differ g7.1 in
-    let g9 = granted _ _ _ _ differ g8.1 in
+    let g1 = granted _ _ _ _ refused e in
+    let g2 = granted _ _ _ _ refused g1.1 in
+    let g3 = granted _ _ _ _ refused g2.1 in
+    let g4 = granted _ _ _ _ refused g3.1 in
+    let g5 = granted _ _ _ _ refused g4.1 in
+    let g6 = granted _ _ _ _ refused g5.1 in
+    let g7 = granted _ _ _ _ refused g6.1 in
+    let g8 = granted _ _ _ _ refused g7.1 in
+    let g9 = granted _ _ _ _ refused g8.1 in
     record {
       long = leb-true _ _ g1.0;
       starts = starts_with-take s slot_start g2.0;
@@ -143,12 +133,12 @@ parsed s d e =
     }
 
 -- a valid slot's fields are below their limits
-pub parsed_fits : (s : List ℕ) (d : SlotData) → parse_slot s ≡ Slot d → Fits d
+pub parsed_fits : (s : List ℕ) (d : SlotData) → parse_slot s ≡ Ok d → Fits d
 parsed_fits s d e =
     let p = parsed s d e in
     subst Fits p.same p.fits
 
-module _ (s : List ℕ) (d : SlotData) (b : Bytes s) (e : parse_slot s ≡ Slot d) where
+module _ (s : List ℕ) (d : SlotData) (b : Bytes s) (e : parse_slot s ≡ Ok d) where
   fields : take 52 s ≡ slot_fields (slot_at s)
   fields =
       let w = parsed s d e in

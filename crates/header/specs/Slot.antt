@@ -1,19 +1,15 @@
 -- A header slot: its 56 bytes, and what reading them answers. All numbers are big-endian.
 -- Assumes nothing.
-use Rattle.std.specs.Prelude.{ℕ, ◌^◌, ◌<◌, List, [], ◌∷◌, ◌++◌, length, take, replicate, ltb, leb, eqb}
-use Rattle.refusal.specs.Table.{none, short, not_a_slot, field_too_large}
+use Rattle.std.specs.Prelude.{ℕ, ◌^◌, ◌<◌, List, [], ◌∷◌, ◌++◌, length, take, ltb, leb, eqb, Result, Ok, Err}
+use Rattle.refusal.specs.declared.Refusal.TheVariants.{Short, NotASlot, FieldTooLarge}
+use Rattle.refusal.specs.Answer.{on_verdict}
 use Rattle.refusal.specs.Demand.{demand}
 use Rattle.refusal.specs.declared.Refusal.{Refusal}
-use Rattle.refusal.specs.declared.Verdict as Answer
-use Rattle.refusal.specs.declared.Verdict.TheVariants as Verdict
 use Rattle.wire.specs.Wire.{be, word, starts_with}
 use Rattle.crc.specs.Crc.{crc_of}
 use Rattle.header.specs.declared.HeaderSlot.{HeaderSlot}
 use Rattle.header.specs.declared.HeaderSlot.TheVariants.{A, B}
 use Rattle.header.specs.declared.SlotData.{SlotData}
-use Rattle.header.specs.declared.ParsedSlot.{ParsedSlot}
-use Rattle.header.specs.declared.ParsedSlot.TheVariants.{Slot, Refused}
-use Rattle.header.specs.declared.EncodedSlot.{EncodedSlot}
 
 -- ---- which slot
 
@@ -61,23 +57,19 @@ abbrev pub slot_bytes : SlotData → List ℕ
 slot_bytes d = slot_fields d ++ be 4 (crc_of (slot_fields d))
 
 -- the fields that every file header has, in their order: the first that is not below its limit is refused
-abbrev pub judge_fields : ℕ → ℕ → ℕ → ℕ → ℕ → ℕ → Answer.Verdict
+abbrev pub judge_fields : ℕ → ℕ → ℕ → ℕ → ℕ → ℕ → Result (Unit {0}) Refusal
 judge_fields limit count_limit file_len count first last =
-    demand (ltb file_len limit) (Verdict.Refused (field_too_large 1))
-    (demand (ltb count count_limit) (Verdict.Refused (field_too_large 2))
-    (demand (ltb first limit) (Verdict.Refused (field_too_large 3))
-    (demand (ltb last limit) (Verdict.Refused (field_too_large 4))
-    Verdict.Granted)))
-
--- the bytes, or as many zeros where they are refused
-abbrev pub encoded_slot : Answer.Verdict → List ℕ → EncodedSlot
-encoded_slot Verdict.Granted bytes = record { answer = Verdict.Granted; bytes = bytes }
-encoded_slot (Verdict.Refused r) bytes = record { answer = Verdict.Refused r; bytes = replicate 56 0 }
+    demand (ltb file_len limit) (Err (FieldTooLarge 1))
+    (demand (ltb count count_limit) (Err (FieldTooLarge 2))
+    (demand (ltb first limit) (Err (FieldTooLarge 3))
+    (demand (ltb last limit) (Err (FieldTooLarge 4))
+    (Ok tt))))
 
 -- what encoding answers; neither the generation nor the next sequence is judged
-abbrev pub encode_slot : ℕ → ℕ → ℕ → ℕ → ℕ → ℕ → EncodedSlot
+abbrev pub encode_slot : ℕ → ℕ → ℕ → ℕ → ℕ → ℕ → Result (List ℕ) Refusal
 encode_slot file_len count first last generation next_seq =
-    encoded_slot (judge_fields (2 ^ 63) (2 ^ 32) file_len count first last) (slot_bytes (slot_data file_len count first last generation next_seq))
+    on_verdict Err (judge_fields (2 ^ 63) (2 ^ 32) file_len count first last)
+    (Ok (slot_bytes (slot_data file_len count first last generation next_seq)))
 
 -- ---- what its bytes say
 
@@ -86,28 +78,23 @@ abbrev pub slot_at : List ℕ → SlotData
 slot_at s = slot_data (word 8 s 8) (word 4 s 16) (word 8 s 20) (word 8 s 28) (word 8 s 36) (word 8 s 44)
 
 -- no field is negative, and the CRC-32 fits
-abbrev pub judge_slot : SlotData → ℕ → ℕ → ParsedSlot
+abbrev pub judge_slot : SlotData → ℕ → ℕ → Result SlotData Refusal
 judge_slot d stored sum =
-    demand (ltb d.file_length (2 ^ 63)) (Refused not_a_slot)
-    (demand (ltb d.element_count (2 ^ 31)) (Refused not_a_slot)
-    (demand (ltb d.first_position (2 ^ 63)) (Refused not_a_slot)
-    (demand (ltb d.last_position (2 ^ 63)) (Refused not_a_slot)
-    (demand (ltb d.generation (2 ^ 63)) (Refused not_a_slot)
-    (demand (ltb d.next_sequence_number (2 ^ 63)) (Refused not_a_slot)
-    (demand (eqb stored sum) (Refused not_a_slot)
-    (Slot d)))))))
+    demand (ltb d.file_length (2 ^ 63)) (Err NotASlot)
+    (demand (ltb d.element_count (2 ^ 31)) (Err NotASlot)
+    (demand (ltb d.first_position (2 ^ 63)) (Err NotASlot)
+    (demand (ltb d.last_position (2 ^ 63)) (Err NotASlot)
+    (demand (ltb d.generation (2 ^ 63)) (Err NotASlot)
+    (demand (ltb d.next_sequence_number (2 ^ 63)) (Err NotASlot)
+    (demand (eqb stored sum) (Err NotASlot)
+    (Ok d)))))))
 
 -- what reading a slot answers; bytes after the 56 are not read
-abbrev pub parse_slot : List ℕ → ParsedSlot
+abbrev pub parse_slot : List ℕ → Result SlotData Refusal
 parse_slot s =
-    demand (leb 56 (length s)) (Refused short)
-    (demand (starts_with s slot_start) (Refused not_a_slot)
+    demand (leb 56 (length s)) (Err Short)
+    (demand (starts_with s slot_start) (Err NotASlot)
     (judge_slot (slot_at s) (word 4 s 52) (crc_of (take 52 s))))
-
--- the number and two values of each answer
-abbrev pub parsed_slot_refusal : ParsedSlot → Refusal
-parsed_slot_refusal (Slot d) = none
-parsed_slot_refusal (Refused r) = r
 
 -- ---- what a slot can hold
 

@@ -4,7 +4,6 @@
 
 use queue::Settings;
 use std::io;
-use writing::Changed;
 
 fn main(rt: HostRuntime) -> io::Result<()> {
     let settings = Settings {
@@ -12,10 +11,10 @@ fn main(rt: HostRuntime) -> io::Result<()> {
         overwrite_on_remove: true,
     };
     let mut image = [0u8; 16384];
-    let Changed::Queue(empty) = writing::fresh(&mut image, 16384, settings) else {
+    let Ok(empty) = writing::fresh(&mut image, 16384, settings) else {
         return Ok(());
     };
-    let Changed::Queue(q) = writing::add(empty, &mut image, b"hello\n") else {
+    let Ok(q) = writing::add(empty, &mut image, b"hello\n") else {
         return Ok(());
     };
     rt.write_all(q.peek_part(&image))

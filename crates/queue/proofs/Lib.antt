@@ -1,8 +1,6 @@
-pub mod Tests
-pub mod Variants
-pub mod AnswerLaws
 pub mod Steps
 pub mod Sound
+pub mod SoundQueueLaws
 pub mod PlaceLaws
 pub mod Headers
 pub mod ElementLaws
@@ -11,4 +9,3 @@ pub mod OpenLaws
 pub mod Trail
 pub mod PeekLaws
 pub mod IterLaws
-pub mod ByHand

@@ -1,14 +1,12 @@
 -- An element as it lies in the ring of a file: header, payload, footer, one behind the other from its place on. Assumes nothing.
-use Rattle.std.specs.Prelude.{ℕ, ◌+◌, ◌-◌, ◌^◌, ◌≤◌, ◌<◌, Bool, ◌&&◌, List, length, eqb}
-use Rattle.refusal.specs.Table.{unsound, sequence_mismatch}
+use Rattle.std.specs.Prelude.{ℕ, ◌+◌, ◌-◌, ◌^◌, ◌≤◌, ◌<◌, Bool, ◌&&◌, List, length, eqb, Result, Ok, Err}
+use Rattle.refusal.specs.declared.Refusal.TheVariants.{Unsound, SequenceMismatch}
 use Rattle.refusal.specs.Demand.{demand}
-use Rattle.refusal.specs.declared.Verdict as Answer
 use Rattle.ring.specs.Ring.{ring_read, has_ring}
 use Rattle.format.specs.Element.{element_span, parse_header, check_footer}
 use Rattle.format.specs.declared.element.V2ElementHeader.{V2ElementHeader}
-use Rattle.format.specs.declared.element.ParsedHeader.{ParsedHeader}
-use Rattle.format.specs.declared.element.ParsedHeader.TheVariants as Parsed
 use Rattle.queue.specs.declared.element.Element.{Element}
+use Rattle.refusal.specs.declared.Refusal.{Refusal}
 
 -- ---- what is known of an element
 
@@ -29,21 +27,21 @@ abbrev pub capacity : ℕ → ℕ
 capacity file = file - 8192
 
 -- what the 28 bytes at the place p say
-unfoldable pub header_at : List ℕ → ℕ → ℕ → ParsedHeader
+unfoldable pub header_at : List ℕ → ℕ → ℕ → Result V2ElementHeader Refusal
 header_at img file p = parse_header (ring_read 8192 (capacity file) img p 28) (capacity file)
 
 -- the same where a ring may not be there: 28 first
-abbrev pub read_header : List ℕ → ℕ → ℕ → ParsedHeader
-read_header img file p = demand (has_ring 8192 (length img) file) (Parsed.Refused unsound) (header_at img file p)
+abbrev pub read_header : List ℕ → ℕ → ℕ → Result V2ElementHeader Refusal
+read_header img file p = demand (has_ring 8192 (length img) file) (Err Unsound) (header_at img file p)
 
 -- 17 unless the header has that sequence
-abbrev pub in_sequence : ℕ → ParsedHeader → ParsedHeader
-in_sequence seq (Parsed.Refused r) = Parsed.Refused r
-in_sequence seq (Parsed.Header h) =
-    demand (eqb h.seq seq) (Parsed.Refused (sequence_mismatch seq h.seq))
-    (Parsed.Header h)
+abbrev pub in_sequence : ℕ → Result V2ElementHeader Refusal → Result V2ElementHeader Refusal
+in_sequence seq (Err r) = Err r
+in_sequence seq (Ok h) =
+    demand (eqb h.seq seq) (Err (SequenceMismatch seq h.seq))
+    (Ok h)
 
-abbrev pub header_in_sequence : List ℕ → ℕ → ℕ → ℕ → ParsedHeader
+abbrev pub header_in_sequence : List ℕ → ℕ → ℕ → ℕ → Result V2ElementHeader Refusal
 header_in_sequence img file p seq = in_sequence seq (header_at img file p)
 
 -- the payload stands behind the header
@@ -51,7 +49,7 @@ unfoldable pub payload_at : List ℕ → ℕ → Element → List ℕ
 payload_at img file e = ring_read 8192 (capacity file) img (e.pos + 28) e.len
 
 -- and the footer behind the payload
-unfoldable pub footer_verdict : List ℕ → ℕ → Element → Answer.Verdict
+unfoldable pub footer_verdict : List ℕ → ℕ → Element → Result (Unit {0}) Refusal
 footer_verdict img file e =
     check_footer (ring_read 8192 (capacity file) img (e.pos + 28 + e.len) 16) e.seq (payload_at img file e)
 

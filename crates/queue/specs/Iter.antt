@@ -1,14 +1,14 @@
 -- Iteration: the element at a cursor, and the cursor after it. Assumes nothing.
-use Rattle.std.specs.Prelude.{ℕ, ◌+◌, cond, List, length, ltb, leb}
+use Rattle.std.specs.Prelude.{ℕ, ◌+◌, cond, List, length, ltb, leb, Result, Ok, Err, Option, Some, None}
 use Rattle.std.specs.Borrow.{Bor}
-use Rattle.refusal.specs.Table.{none, unsound, output_too_small}
+use Rattle.refusal.specs.declared.Refusal.TheVariants.{Unsound, OutputTooSmall}
 use Rattle.refusal.specs.Demand.{demand}
 use Rattle.refusal.specs.declared.Refusal.{Refusal}
 use Rattle.wire.specs.Wire.{put_at}
 use Rattle.ring.specs.Ring.{ring_add}
 use Rattle.format.specs.Element.{element_span}
 use Rattle.format.specs.declared.element.V2ElementHeader.{V2ElementHeader}
-use Rattle.queue.specs.Answers.{on_header, on_verdict}
+use Rattle.refusal.specs.Answer.{on_ok, on_verdict}
 use Rattle.queue.specs.Element.{capacity, element_here, header_at, payload_at, footer_verdict}
 use Rattle.queue.specs.State.{sound}
 use Rattle.queue.specs.declared.state.QueueFile.{QueueFile}
@@ -16,8 +16,6 @@ use Rattle.queue.specs.declared.iter.Cursor.{Cursor}
 use Rattle.queue.specs.declared.iter.Iter.{Iter}
 use Rattle.queue.specs.declared.iter.Next.{Next}
 use Rattle.queue.specs.declared.iter.Step.{Step}
-use Rattle.queue.specs.declared.iter.Stepped.{Stepped}
-use Rattle.queue.specs.declared.iter.Stepped.TheVariants.{Element, End, Refused}
 
 abbrev pub cursor_at : ℕ → ℕ → Cursor
 cursor_at index p = record { next_elem_index = index; next_elem_pos = p }
@@ -38,44 +36,38 @@ step_here file c h =
     }
 
 -- 29 for an output of `room` bytes that is too small, and then the footer
-abbrev pub step_on : List ℕ → ℕ → Cursor → ℕ → V2ElementHeader → Stepped
+abbrev pub step_on : List ℕ → ℕ → Cursor → ℕ → V2ElementHeader → Result (Option Step) Refusal
 step_on img file c room h =
-    demand (leb h.payload_len room) (Refused output_too_small)
-    (on_verdict Refused (footer_verdict img file (element_here c.next_elem_pos h))
-    (Element (step_here file c h)))
+    demand (leb h.payload_len room) (Err OutputTooSmall)
+    (on_verdict Err (footer_verdict img file (element_here c.next_elem_pos h))
+    (Ok (Some (step_here file c h))))
 
 -- 28, then the end at the count, whatever the place; 28 for a place that is not in the ring; then the header
-unfoldable pub judge_step : QueueFile → List ℕ → Cursor → ℕ → Stepped
+unfoldable pub judge_step : QueueFile → List ℕ → Cursor → ℕ → Result (Option Step) Refusal
 judge_step q img c room =
-    demand (sound q (length img)) (Refused unsound)
-    (cond (leb q.elem_cnt c.next_elem_index) End
-    (demand (ltb c.next_elem_pos (capacity q.file_len)) (Refused unsound)
-    (on_header Refused (header_at img q.file_len c.next_elem_pos) (step_on img q.file_len c room))))
+    demand (sound q (length img)) (Err Unsound)
+    (cond (leb q.elem_cnt c.next_elem_index) (Ok None)
+    (demand (ltb c.next_elem_pos (capacity q.file_len)) (Err Unsound)
+    (on_ok Err (header_at img q.file_len c.next_elem_pos) (step_on img q.file_len c room))))
 
 -- the output then: the payload at its front, or what it was
-abbrev pub stepped_output : Stepped → List ℕ → ℕ → List ℕ → List ℕ
-stepped_output (Element s) img file out = put_at out 0 (payload_at img file s.elem)
-stepped_output End img file out = out
-stepped_output (Refused r) img file out = out
+abbrev pub stepped_output : Result (Option Step) Refusal → List ℕ → ℕ → List ℕ → List ℕ
+stepped_output (Ok (Some s)) img file out = put_at out 0 (payload_at img file s.elem)
+stepped_output (Ok None) img file out = out
+stepped_output (Err r) img file out = out
 
 -- after a refusal or the end the cursor stays where it was
-abbrev pub cursor_after : Stepped → Cursor → Cursor
-cursor_after (Element s) c = s.next
-cursor_after End c = c
-cursor_after (Refused r) c = c
-
--- the number and two values of each answer
-abbrev pub stepped_refusal : Stepped → Refusal
-stepped_refusal (Element s) = none
-stepped_refusal End = none
-stepped_refusal (Refused r) = r
+abbrev pub cursor_after : Result (Option Step) Refusal → Cursor → Cursor
+cursor_after (Ok (Some s)) c = s.next
+cursor_after (Ok None) c = c
+cursor_after (Err r) c = c
 
 -- a reader of an image: it starts at first, as iteration does
 abbrev pub reader_of : Bor (List ℕ) → QueueFile → Iter
 reader_of image q = record { image = image; state = q; cursor = start_of q }
 
 -- the answer at a reader's place, for an output of `room` bytes
-abbrev pub next_answer : Iter → ℕ → Stepped
+abbrev pub next_answer : Iter → ℕ → Result (Option Step) Refusal
 next_answer it room = judge_step it.state it.image.now it.cursor room
 
 -- that answer, and the reader then: the same image and state, and the cursor after the answer

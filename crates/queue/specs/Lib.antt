@@ -1,7 +1,7 @@
-pub mod Answers
 pub mod Places
 pub mod Element
 pub mod State
+pub mod SoundQueue
 pub mod Recover
 pub mod Opening
 pub mod Strict

@@ -1,50 +1,41 @@
 -- Opening the file of `real` bytes at the front of an image. Assumes nothing.
-use Rattle.std.specs.Prelude.{ℕ, ◌+◌, ◌-◌, ◌^◌, cond, List, length, take, drop, ltb, leb, eqb}
-use Rattle.refusal.specs.Table.{none, unsound, not_a_slot}
+use Rattle.std.specs.Prelude.{ℕ, ◌+◌, ◌-◌, ◌^◌, cond, List, length, take, drop, ltb, leb, eqb, Result, Ok, Err}
+use Rattle.refusal.specs.declared.Refusal.TheVariants.{Unsound, NotASlot}
 use Rattle.refusal.specs.Demand.{demand}
 use Rattle.refusal.specs.declared.Refusal.{Refusal}
 use Rattle.header.specs.Slot.{slot_offset, parse_slot}
 use Rattle.header.specs.declared.HeaderSlot.{HeaderSlot}
 use Rattle.header.specs.declared.HeaderSlot.TheVariants.{A, B}
 use Rattle.header.specs.declared.SlotData.{SlotData}
-use Rattle.header.specs.declared.ParsedSlot as Read
-use Rattle.header.specs.declared.ParsedSlot.TheVariants as Slot
 use Rattle.format.specs.Slots.{elect_slot, check_slot}
-use Rattle.format.specs.declared.element.ParsedHeader.{ParsedHeader}
-use Rattle.format.specs.declared.element.ParsedHeader.TheVariants as Parsed
 use Rattle.format.specs.declared.slots.V2OpenState.{V2OpenState}
-use Rattle.format.specs.declared.slots.Elected as Election
-use Rattle.format.specs.declared.slots.Elected.TheVariants as Elected
-use Rattle.queue.specs.Answers.{on_header, on_place, on_verdict}
+use Rattle.refusal.specs.Answer.{◌>>=◌, on_verdict}
 use Rattle.queue.specs.Places.{to_logical}
 use Rattle.queue.specs.Element.{element, element_here, header_at, header_in_sequence}
 use Rattle.queue.specs.Recover.{recover_head}
 use Rattle.queue.specs.declared.element.Element.{Element}
 use Rattle.queue.specs.declared.state.Settings.{Settings}
 use Rattle.queue.specs.declared.state.QueueFile.{QueueFile}
-use Rattle.queue.specs.declared.recover.Recovered as Recovery
-use Rattle.queue.specs.declared.recover.Recovered.TheVariants as Recovered
-use Rattle.queue.specs.declared.opening.Opened.{Opened}
-use Rattle.queue.specs.declared.opening.Opened.TheVariants.{Queue, Refused}
+use Rattle.format.specs.declared.element.V2ElementHeader.{V2ElementHeader}
 
 -- ---- the slot that holds
 
 -- a slot is tried only if the real length reaches its end
-unfoldable pub tried_slot : List ℕ → ℕ → HeaderSlot → Read.ParsedSlot
+unfoldable pub tried_slot : List ℕ → ℕ → HeaderSlot → Result SlotData Refusal
 tried_slot img real which =
-    demand (leb (slot_offset which + 56) real) (Slot.Refused not_a_slot)
+    demand (leb (slot_offset which + 56) real) (Err NotASlot)
     (parse_slot (take 56 (drop (slot_offset which) img)))
 
 -- what it says has to be possible
-unfoldable pub checked_state : Election.Elected → ℕ → Election.Elected
-checked_state (Elected.Refused r) real = Elected.Refused r
-checked_state (Elected.Slot o) real = on_verdict Elected.Refused (check_slot o.slot real) (Elected.Slot o)
+unfoldable pub checked_state : Result V2OpenState Refusal → ℕ → Result V2OpenState Refusal
+checked_state (Err r) real = Err r
+checked_state (Ok o) real = on_verdict Err (check_slot o.slot real) (Ok o)
 
 -- 28 for a real length above the image's or not below 2^63
-unfoldable pub open_state : List ℕ → ℕ → Election.Elected
+unfoldable pub open_state : List ℕ → ℕ → Result V2OpenState Refusal
 open_state img real =
-    demand (leb real (length img)) (Elected.Refused unsound)
-    (demand (ltb real (2 ^ 63)) (Elected.Refused unsound)
+    demand (leb real (length img)) (Err Unsound)
+    (demand (ltb real (2 ^ 63)) (Err Unsound)
     (checked_state (elect_slot (tried_slot img real A) (tried_slot img real B)) real))
 
 -- ---- the state
@@ -82,42 +73,32 @@ with_ends q first last =
 
 -- ---- its ends
 
--- an element that is found is the head, or its refusal is the answer
-abbrev pub from_head : Recovery.Recovered → (Element → Opened) → Opened
-from_head (Recovered.Refused r) next = Refused r
-from_head (Recovered.Head e) next = next e
-
 -- a valid header at first is taken, its sequence unjudged; else the head is recovered from last
-abbrev pub or_recovered : ParsedHeader → ℕ → Recovery.Recovered → Recovery.Recovered
-or_recovered (Parsed.Header h) p recovered = Recovered.Head (element_here p h)
-or_recovered (Parsed.Refused r) p recovered = recovered
+abbrev pub or_recovered : Result V2ElementHeader Refusal → ℕ → Result Element Refusal → Result Element Refusal
+or_recovered (Ok h) p recovered = Ok (element_here p h)
+or_recovered (Err r) p recovered = recovered
 
-unfoldable pub first_element : List ℕ → ℕ → ℕ → Element → ℕ → Recovery.Recovered
+unfoldable pub first_element : List ℕ → ℕ → ℕ → Element → ℕ → Result Element Refusal
 first_element img file p last n = or_recovered (header_at img file p) p (recover_head img file last.pos last.seq n)
 
 -- the header at last has to be valid, with the sequence before the next one
-unfoldable pub open_ends : List ℕ → QueueFile → SlotData → Opened
-open_ends img q d =
-    on_place Refused (to_logical d.first_position) (λ first.
-    on_place Refused (to_logical d.last_position) (λ last.
-    on_header Refused (header_in_sequence img q.file_len last (d.next_sequence_number - 1)) (λ h.
-    from_head (first_element img q.file_len first (element_here last h) q.elem_cnt) (λ e.
-    Queue (with_ends q e (element_here last h))))))
+unfoldable pub open_ends : List ℕ → QueueFile → SlotData → Result QueueFile Refusal
+open_ends img q d = do
+  first ← to_logical d.first_position
+  last ← to_logical d.last_position
+  h ← header_in_sequence img q.file_len last (d.next_sequence_number - 1)
+  e ← first_element img q.file_len first (element_here last h) q.elem_cnt
+  Ok (with_ends q e (element_here last h))
 
 -- ---- opening
 
 -- an empty queue opens with both ends all 0
-abbrev pub opened_from : List ℕ → QueueFile → SlotData → Opened
-opened_from img q d = cond (eqb q.elem_cnt 0) (Queue q) (open_ends img q d)
+abbrev pub opened_from : List ℕ → QueueFile → SlotData → Result QueueFile Refusal
+opened_from img q d = cond (eqb q.elem_cnt 0) (Ok q) (open_ends img q d)
 
-abbrev pub from_state : List ℕ → ℕ → Settings → Election.Elected → Opened
-from_state img real settings (Elected.Refused r) = Refused r
-from_state img real settings (Elected.Slot o) = opened_from img (built_queue o real settings) o.slot
+abbrev pub from_state : List ℕ → ℕ → Settings → Result V2OpenState Refusal → Result QueueFile Refusal
+from_state img real settings (Err r) = Err r
+from_state img real settings (Ok o) = opened_from img (built_queue o real settings) o.slot
 
-unfoldable pub open_queue : List ℕ → ℕ → Settings → Opened
+unfoldable pub open_queue : List ℕ → ℕ → Settings → Result QueueFile Refusal
 open_queue img real settings = from_state img real settings (open_state img real)
-
--- the number and two values of each answer
-abbrev pub opened_refusal : Opened → Refusal
-opened_refusal (Queue q) = none
-opened_refusal (Refused r) = r

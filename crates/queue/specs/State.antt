@@ -1,14 +1,12 @@
 -- When a state is sound over an image of len bytes, and how much of the file it uses. Assumes nothing.
-use Rattle.std.specs.Prelude.{ℕ, ◌+◌, ◌-◌, ◌^◌, Bool, not, cond, ◌&&◌, ltb, leb, eqb}
-use Rattle.refusal.specs.Table.{none, unsound}
+use Rattle.std.specs.Prelude.{ℕ, ◌+◌, ◌-◌, ◌^◌, Bool, not, cond, ◌&&◌, ltb, leb, eqb, Result, Ok, Err}
+use Rattle.refusal.specs.declared.Refusal.TheVariants.{Unsound}
 use Rattle.refusal.specs.Demand.{demand}
 use Rattle.refusal.specs.declared.Refusal.{Refusal}
 use Rattle.ring.specs.Ring.{ring_distance}
 use Rattle.format.specs.Element.{element_span}
 use Rattle.queue.specs.Element.{is_empty_element, capacity}
 use Rattle.queue.specs.declared.state.QueueFile.{QueueFile}
-use Rattle.queue.specs.declared.state.Count.{Count}
-use Rattle.queue.specs.declared.state.Count.TheVariants.{Bytes, Refused}
 
 -- ---- used bytes
 
@@ -59,13 +57,8 @@ sound q len = sound_lengths q len && (sound_numbers q && cond (eqb q.elem_cnt 0)
 
 -- ---- what is asked of a sound state
 
-abbrev pub judge_used : QueueFile → ℕ → Count
-judge_used q len = demand (sound q len) (Refused unsound) (Bytes (used_bytes q))
+abbrev pub judge_used : QueueFile → ℕ → Result ℕ Refusal
+judge_used q len = demand (sound q len) (Err Unsound) (Ok (used_bytes q))
 
-abbrev pub judge_remaining : QueueFile → ℕ → Count
-judge_remaining q len = demand (sound q len) (Refused unsound) (Bytes (remaining_bytes q))
-
--- the number and two values of each answer
-abbrev pub count_refusal : Count → Refusal
-count_refusal (Bytes n) = none
-count_refusal (Refused r) = r
+abbrev pub judge_remaining : QueueFile → ℕ → Result ℕ Refusal
+judge_remaining q len = demand (sound q len) (Err Unsound) (Ok (remaining_bytes q))

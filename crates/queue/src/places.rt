@@ -6,16 +6,16 @@ ghost use Rattle.queue.specs.Places.{to_logical};
 
 use header::V2_DATA_START;
 use refusal::Refusal;
-use ring::Placed;
 
 // The place in the ring of what a pointer or a backlink names, which is an offset in the file. Nothing else turns the one into the other.
-pub fn to_logical(phys: u64) -> Placed
+#[tactic(auto, using(refusal::proofs::Laws::decide))]
+pub fn to_logical(phys: u64) -> Result<u64, Refusal>
     ensures { result ≡ to_logical phys }
 {
     if phys < V2_DATA_START {
-        return Placed::Refused(Refusal::BACKLINK_LOW);
+        return Err(Refusal::BacklinkLow);
     }
-    Placed::At(phys - V2_DATA_START)
+    Ok(phys - V2_DATA_START)
 }
 
 // The place that is delta places past another.
@@ -23,10 +23,7 @@ pub(crate) fn add(image_len: u64, file_len: u64, pos: u64, delta: u64) -> u64
     requires { (8192 < file_len) × (file_len ≤ image_len) × (pos + delta < 2 ^ 64) }
     ensures { result ≡ ring_add (file_len - 8192) pos delta }
 {
-    match ring::add(image_len, file_len, pos, delta) {
-        Placed::At(place) => place,
-        Placed::Refused(_) => pos,
-    }
+    ring::add(image_len, file_len, pos, delta).unwrap()
 }
 
 // How many places `to` is past `from`, within one turn.
@@ -34,8 +31,5 @@ pub(crate) fn distance(image_len: u64, file_len: u64, from: u64, to: u64) -> u64
     requires { (8192 < file_len) × (file_len ≤ image_len) × (from < file_len - 8192) × (to < file_len - 8192) }
     ensures { result ≡ ring_distance (file_len - 8192) from to }
 {
-    match ring::distance(image_len, file_len, from, to) {
-        Placed::At(places) => places,
-        Placed::Refused(_) => 0,
-    }
+    ring::distance(image_len, file_len, from, to).unwrap()
 }

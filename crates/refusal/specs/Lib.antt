@@ -1,3 +1,3 @@
 pub mod Table
-pub mod Verdict
+pub mod Answer
 pub mod Demand

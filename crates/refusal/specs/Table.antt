@@ -1,179 +1,79 @@
--- The table of refusals: a name for each number, so that a definition says what is wrong and not a number.
--- docs/REFUSALS.md says when each is given. Assumes nothing.
-use Rattle.std.specs.Prelude.{ℕ, List, [], ◌∷◌}
+-- The table of refusals: the number and the two values of each. docs/REFUSALS.md says when each is given. Assumes nothing.
+use Rattle.std.specs.Prelude.{ℕ}
 use Rattle.refusal.specs.declared.Refusal.{Refusal}
+use Rattle.refusal.specs.declared.Refusal.TheVariants.{Short, HeaderMagic, HeaderLength, HeaderSequence, HeaderCrc, HeaderSpan, FooterMagic, FooterSequence, FooterCrc, NoSlot, SlotLength, SlotTruncated, SlotSequence, EmptyPointer, ZeroPointer, PointerBounds, SequenceMismatch, BacklinkZero, BacklinkLow, RecoveryEmpty, RecoverySequence, FieldTooLarge, UnsupportedVersion, ElementTooBig, TooManyElements, BufferTooSmall, Overflow, Unsound, OutputTooSmall, Exhausted, NotASlot, BrokenLink, CrossesEnd}
 
--- a refusal whose two values are 0
-abbrev pub plain : ℕ → Refusal
-plain n = record { number = n; first = 0; second = 0 }
-
--- nothing is refused
-abbrev pub none : Refusal
-none = plain 0
-
+abbrev pub number_of : Refusal → ℕ
 -- bytes that are too few for the layout they are to hold
-abbrev pub short : Refusal
-short = plain 1
-
+number_of Short = 1
 -- element header: other magic bytes
-abbrev pub header_magic : Refusal
-header_magic = plain 2
-
+number_of HeaderMagic = 2
 -- element header: a negative payload length
-abbrev pub header_length : Refusal
-header_length = plain 3
-
+number_of HeaderLength = 3
 -- element header: sequence 0
-abbrev pub header_sequence : Refusal
-header_sequence = plain 4
-
+number_of HeaderSequence = 4
 -- element header: another CRC
-abbrev pub header_crc : Refusal
-header_crc = plain 5
-
+number_of HeaderCrc = 5
 -- element header: a span above the capacity
-abbrev pub header_span : Refusal
-header_span = plain 6
-
+number_of HeaderSpan = 6
 -- footer: other magic bytes
-abbrev pub footer_magic : Refusal
-footer_magic = plain 7
-
+number_of FooterMagic = 7
 -- footer: another sequence than the header
-abbrev pub footer_sequence : Refusal
-footer_sequence = plain 8
-
+number_of FooterSequence = 8
 -- footer: another CRC
-abbrev pub footer_crc : Refusal
-footer_crc = plain 9
-
+number_of FooterCrc = 9
 -- no slot is valid
-abbrev pub no_slot : Refusal
-no_slot = plain 10
-
+number_of NoSlot = 10
 -- slot: file length below 8192
-abbrev pub slot_length : Refusal
-slot_length = plain 11
-
+number_of SlotLength = 11
 -- slot: file length above the real length
-abbrev pub slot_truncated : Refusal
-slot_truncated = plain 12
-
+number_of SlotTruncated = 12
 -- slot: next sequence 0
-abbrev pub slot_sequence : Refusal
-slot_sequence = plain 13
-
+number_of SlotSequence = 13
 -- slot: count 0 with a pointer that is not 0
-abbrev pub empty_pointer : Refusal
-empty_pointer = plain 14
-
+number_of EmptyPointer = 14
 -- slot: count above 0 with a pointer that is 0
-abbrev pub zero_pointer : Refusal
-zero_pointer = plain 15
-
+number_of ZeroPointer = 15
 -- slot: a pointer below 8192 or not below the file length
-abbrev pub pointer_bounds : Refusal
-pointer_bounds = plain 16
-
--- recovery: a backlink that is 0
-abbrev pub backlink_zero : Refusal
-backlink_zero = plain 18
-
--- recovery: a backlink from 1 to 8191
-abbrev pub backlink_low : Refusal
-backlink_low = plain 19
-
--- recovery asked with count 0
-abbrev pub recovery_empty : Refusal
-recovery_empty = plain 20
-
--- recovery: a step above the tail sequence
-abbrev pub recovery_sequence : Refusal
-recovery_sequence = plain 21
-
--- payload above 2147483647 bytes
-abbrev pub element_too_big : Refusal
-element_too_big = plain 24
-
--- count + 1 not below 2147483647
-abbrev pub too_many_elements : Refusal
-too_many_elements = plain 25
-
--- new length above the length of the lent buffer; listing input above 65536 bytes
-abbrev pub buffer_too_small : Refusal
-buffer_too_small = plain 26
-
--- growth above 2^63 - 1; place plus distance, or a span, above 2^64 - 1
-abbrev pub overflow : Refusal
-overflow = plain 27
-
--- unsound state, file length or place
-abbrev pub unsound : Refusal
-unsound = plain 28
-
--- output too small
-abbrev pub output_too_small : Refusal
-output_too_small = plain 29
-
--- generation or next sequence would pass 2^63 - 1
-abbrev pub exhausted : Refusal
-exhausted = plain 30
-
--- not a valid slot
-abbrev pub not_a_slot : Refusal
-not_a_slot = plain 31
-
--- strict linkage
-abbrev pub broken_link : Refusal
-broken_link = plain 32
-
--- payload crosses the end of the ring
-abbrev pub crosses_end : Refusal
-crosses_end = plain 33
-
+number_of PointerBounds = 16
 -- another sequence than the one that its place asks for
-abbrev pub sequence_mismatch : ℕ → ℕ → Refusal
-sequence_mismatch expected found = record { number = 17; first = expected; second = found }
-
+number_of (SequenceMismatch expected found) = 17
+-- recovery: a backlink that is 0
+number_of BacklinkZero = 18
+-- recovery: a backlink from 1 to 8191
+number_of BacklinkLow = 19
+-- recovery asked with count 0
+number_of RecoveryEmpty = 20
+-- recovery: a step above the tail sequence
+number_of RecoverySequence = 21
 -- a field of a file header or a slot too large: 1 file length, 2 count, 3 first, 4 last
-abbrev pub field_too_large : ℕ → Refusal
-field_too_large field = record { number = 22; first = field; second = 0 }
+number_of (FieldTooLarge field) = 22
+-- another version of a versioned file header than 1
+number_of (UnsupportedVersion version) = 23
+-- payload above 2147483647 bytes
+number_of ElementTooBig = 24
+-- count + 1 not below 2147483647
+number_of TooManyElements = 25
+-- new length above the length of the lent buffer; listing input above 65536 bytes
+number_of BufferTooSmall = 26
+-- growth above 2^63 - 1; place plus distance, or a span, above 2^64 - 1
+number_of Overflow = 27
+-- unsound state, file length or place
+number_of Unsound = 28
+-- output too small
+number_of OutputTooSmall = 29
+-- generation or next sequence would pass 2^63 - 1
+number_of Exhausted = 30
+-- not a valid slot
+number_of NotASlot = 31
+-- strict linkage
+number_of BrokenLink = 32
+-- payload crosses the end of the ring
+number_of CrossesEnd = 33
 
--- V1 version not 1
-abbrev pub unsupported_version : ℕ → Refusal
-unsupported_version version = record { number = 23; first = version; second = 0 }
-
--- every refusal whose two values are 0, by number
-abbrev pub plain_refusals : List Refusal
-plain_refusals =
-    short
-    ∷ header_magic
-    ∷ header_length
-    ∷ header_sequence
-    ∷ header_crc
-    ∷ header_span
-    ∷ footer_magic
-    ∷ footer_sequence
-    ∷ footer_crc
-    ∷ no_slot
-    ∷ slot_length
-    ∷ slot_truncated
-    ∷ slot_sequence
-    ∷ empty_pointer
-    ∷ zero_pointer
-    ∷ pointer_bounds
-    ∷ backlink_zero
-    ∷ backlink_low
-    ∷ recovery_empty
-    ∷ recovery_sequence
-    ∷ element_too_big
-    ∷ too_many_elements
-    ∷ buffer_too_small
-    ∷ overflow
-    ∷ unsound
-    ∷ output_too_small
-    ∷ exhausted
-    ∷ not_a_slot
-    ∷ broken_link
-    ∷ crosses_end
-    ∷ []
+-- 0 and 0 where there is nothing to tell
+abbrev pub values_of : Refusal → ℕ × ℕ
+values_of (SequenceMismatch expected found) = (expected, found)
+values_of (FieldTooLarge field) = (field, 0)
+values_of (UnsupportedVersion version) = (version, 0)
+values_of _ = (0, 0)

@@ -1,90 +1,71 @@
-// The operations on the bench, which is the state, the image and the output, but for those on the queue: their names, the shapes of
-// their lines, and who answers them.
-use crate::answer::Answer;
-use crate::done::Done;
-use crate::words::{Numbers, Shape, place};
-use crate::{on_ring, setup};
+// The bench: what goes from line to line, and the operations on it.
+use crate::answer::{Answer, Fault};
 use queue::QueueFile;
 
-#[derive(Clone, Copy)]
-pub enum BenchOperation {
-    State,
-    Poke,
-    Extend,
-    RingAdd,
-    RingDistance,
-    RingRead,
-    RingWrite,
-    RingErase,
-    Relocate,
-    Unknown,
+// What a script runs on.
+#[derive(Drop)]
+pub struct Bench {
+    // The byte strings of a line, of which there are two at most.
+    pub strings: [u8; 524288],
+    // What an operation reads goes here: a longer payload is refused.
+    pub output: [u8; 65536],
+    // The image is all of this, whatever the real length.
+    pub image: [u8; 262144],
+    // The state, or nothing before the first and behind an image that was not opened.
+    pub held: Option<QueueFile>,
 }
 
-pub fn named(name: &[u8]) -> BenchOperation {
-    let names = b"state poke extend \
-        ring_add ring_distance ring_read ring_write ring_erase relocate";
-    match place(name, names) {
-        0 => BenchOperation::State,
-        1 => BenchOperation::Poke,
-        2 => BenchOperation::Extend,
-        3 => BenchOperation::RingAdd,
-        4 => BenchOperation::RingDistance,
-        5 => BenchOperation::RingRead,
-        6 => BenchOperation::RingWrite,
-        7 => BenchOperation::RingErase,
-        8 => BenchOperation::Relocate,
-        _ => BenchOperation::Unknown,
+impl Bench {
+    pub fn new() -> Bench {
+        Bench {
+            strings: [0; 524288],
+            output: [0; 65536],
+            image: [0; 262144],
+            held: None,
+        }
     }
-}
 
-// The shape of a line; `state` reads its own.
-pub fn shape(operation: BenchOperation) -> Shape {
-    match operation {
-        BenchOperation::State => Shape::NONE,
-        BenchOperation::Poke => Shape::of_words(3, 2, 0),
-        BenchOperation::Extend => Shape::of_numbers(2),
-        BenchOperation::RingAdd => Shape::of_numbers(3),
-        BenchOperation::RingDistance => Shape::of_numbers(3),
-        BenchOperation::RingRead => Shape::of_numbers(3),
-        BenchOperation::RingWrite => Shape::of_words(3, 2, 0),
-        BenchOperation::RingErase => Shape::of_numbers(3),
-        BenchOperation::Relocate => Shape::of_numbers(3),
-        BenchOperation::Unknown => Shape::NONE,
+    // The answer to a line, which leaves a state. All but these need one.
+    pub fn answer(&mut self, line: &[u8]) -> Answer {
+        match script::word(line, 0) {
+            b"state" => self.give(line),
+            b"image" => self.load(line),
+            b"fresh" => self.fresh(line),
+            name => {
+                let q = self.held.ok_or(Fault::Bad)?;
+                self.answer_on(name, line, q)
+            }
+        }
     }
-}
 
-// What a line with these numbers and this byte string does.
-pub fn work(
-    operation: BenchOperation,
-    n: Numbers,
-    bytes: &[u8],
-    output: &mut [u8],
-    image: &mut [u8],
-    q: QueueFile,
-) -> Done {
-    if let BenchOperation::Extend = operation {
-        return setup::extend(image, n.first, q);
-    }
-    Done::on_bench(answer(operation, n, bytes, output, image, q.file_len), q)
-}
-
-// The answer to a line that leaves the state as it is.
-fn answer(
-    operation: BenchOperation,
-    n: Numbers,
-    bytes: &[u8],
-    output: &mut [u8],
-    image: &mut [u8],
-    file_len: u64,
-) -> Answer {
-    match operation {
-        BenchOperation::Poke => setup::poke(image, n.first, bytes),
-        BenchOperation::RingAdd => on_ring::add(image.len() as u64, file_len, n),
-        BenchOperation::RingDistance => on_ring::distance(image.len() as u64, file_len, n),
-        BenchOperation::RingRead => on_ring::read(image, file_len, n, output),
-        BenchOperation::RingWrite => on_ring::write(image, file_len, n.first, bytes),
-        BenchOperation::RingErase => on_ring::erase(image, file_len, n),
-        BenchOperation::Relocate => on_ring::relocate(image, n),
-        _ => Answer::bad(),
+    fn answer_on(&mut self, name: &[u8], line: &[u8], q: QueueFile) -> Answer {
+        match name {
+            b"poke" => self.poke(line),
+            b"extend" => self.extend(line, q),
+            b"ring_add" => self.ring_add(line, q),
+            b"ring_distance" => self.ring_distance(line, q),
+            b"ring_read" => self.ring_read(line, q),
+            b"ring_write" => self.ring_write(line, q),
+            b"ring_erase" => self.ring_erase(line, q),
+            b"relocate" => self.relocate(line),
+            b"add" => self.add(line, q),
+            b"remove" => self.remove(line, q),
+            b"clear" => self.clear(line, q),
+            b"commit" => self.commit(line, q),
+            b"grow" => self.grow(line, q),
+            b"reopen" => self.reopen(line, q),
+            b"strict" => self.reopen_strictly(line, q),
+            b"overwrite" => self.set_overwrite(line, q),
+            b"capacity" => self.set_capacity(line, q),
+            b"peek" => self.peek(line, q),
+            b"peek_into" => self.peek_into(line, q),
+            b"peek_place" => self.peek_place(line, q),
+            b"peek_part" => self.peek_part(line, q),
+            b"iterate" => self.iterate(line, q),
+            b"step" => self.step(line, q),
+            b"recover" => self.recover(line, q),
+            b"used" => self.used(line, q),
+            _ => Err(Fault::Bad),
+        }
     }
 }

@@ -1,92 +1,63 @@
-// The operations that change a queue, `fresh`, `add`, `remove`, `clear`, `commit` and `grow`: their names, the shapes of their lines,
-// and who answers them.
-use crate::answer::Answer;
-use crate::done::{Done, Held};
-use crate::opening::settings_of;
-use crate::words::{Numbers, Shape, place};
+// The operations that change a queue, `fresh`, `add`, `remove`, `clear`, `commit` and `grow`.
+use crate::answer::{Answer, Told};
+use crate::bench::Bench;
+use crate::words;
 use queue::QueueFile;
-use writing::Changed;
 
-#[derive(Clone, Copy)]
-pub enum ChangingOperation {
-    Fresh,
-    Add,
-    Remove,
-    Clear,
-    Commit,
-    Grow,
-    Unknown,
-}
-
-pub fn named(name: &[u8]) -> ChangingOperation {
-    match place(name, b"fresh add remove clear commit grow") {
-        0 => ChangingOperation::Fresh,
-        1 => ChangingOperation::Add,
-        2 => ChangingOperation::Remove,
-        3 => ChangingOperation::Clear,
-        4 => ChangingOperation::Commit,
-        5 => ChangingOperation::Grow,
-        _ => ChangingOperation::Unknown,
+impl Bench {
+    // `fresh LEN CAPACITY OVERWRITE`
+    pub fn fresh(&mut self, line: &[u8]) -> Answer {
+        let [len, capacity, overwrite] = words::numbers::<3>(line)?;
+        let settings = words::settings(capacity, overwrite)?;
+        let changed = writing::fresh(&mut self.image, len, settings)?;
+        self.keep(changed)
     }
-}
 
-pub fn shape(operation: ChangingOperation) -> Shape {
-    match operation {
-        ChangingOperation::Fresh => Shape::of_numbers(4).with_flag(3),
-        ChangingOperation::Add => Shape::ONE_STRING,
-        ChangingOperation::Remove => Shape::of_numbers(2),
-        ChangingOperation::Clear => Shape::of_numbers(1),
-        ChangingOperation::Commit => Shape::of_numbers(1),
-        ChangingOperation::Grow => Shape::of_numbers(2),
-        ChangingOperation::Unknown => Shape::NONE,
+    // `add HEX`
+    pub fn add(&mut self, line: &[u8], q: QueueFile) -> Answer {
+        words::count(line, 2)?;
+        let payload = words::string(line, 1, &mut self.strings)?;
+        let changed = writing::add(q, &mut self.image, payload)?;
+        self.keep(changed)
     }
-}
 
-// What a line with these numbers and this byte string does. All but `fresh` need a state.
-pub fn work(
-    operation: ChangingOperation,
-    n: Numbers,
-    bytes: &[u8],
-    image: &mut [u8],
-    held: Held,
-) -> Done {
-    if let ChangingOperation::Fresh = operation {
-        let settings = settings_of(n.second, n.third);
-        return changed(writing::fresh(image, n.first, settings), held);
+    // `remove N`
+    pub fn remove(&mut self, line: &[u8], q: QueueFile) -> Answer {
+        let [n] = words::numbers::<1>(line)?;
+        let changed = writing::remove_n(q, &mut self.image, n)?;
+        self.keep(changed)
     }
-    let Held::State(q) = held else {
-        return Done::bad(held);
-    };
-    changed(change(operation, n, bytes, image, q), held)
-}
 
-// The change that a line makes which needs a state. No other line comes here.
-fn change(
-    operation: ChangingOperation,
-    n: Numbers,
-    bytes: &[u8],
-    image: &mut [u8],
-    q: QueueFile,
-) -> Changed {
-    match operation {
-        ChangingOperation::Add => writing::add(q, image, bytes),
-        ChangingOperation::Remove => writing::remove_n(q, image, n.first),
-        ChangingOperation::Clear => writing::clear(q, image),
-        ChangingOperation::Commit => writing::commit(q, image),
-        ChangingOperation::Grow => writing::expand_if_necessary(q, image, n.first),
-        _ => Changed::Queue(q),
+    // `clear`
+    pub fn clear(&mut self, line: &[u8], q: QueueFile) -> Answer {
+        words::count(line, 1)?;
+        let changed = writing::clear(q, &mut self.image)?;
+        self.keep(changed)
     }
-}
 
-// What a change leaves: the state after it, and the one before it where it is refused.
-fn changed(changed: Changed, before: Held) -> Done {
-    match changed {
-        Changed::Queue(q) => Done::on_bench(Answer::done(), q),
-        Changed::Refused(refusal) => Done::leaving(Answer::of_refusal(refusal), before),
+    // `commit`
+    pub fn commit(&mut self, line: &[u8], q: QueueFile) -> Answer {
+        words::count(line, 1)?;
+        let changed = writing::commit(q, &mut self.image)?;
+        self.keep(changed)
+    }
+
+    // `grow SPAN`
+    pub fn grow(&mut self, line: &[u8], q: QueueFile) -> Answer {
+        let [span] = words::numbers::<1>(line)?;
+        let changed = writing::expand_if_necessary(q, &mut self.image, span)?;
+        self.keep(changed)
+    }
+
+    // What an opening or a change leaves is held; where it is refused, the state before it still is.
+    pub fn keep(&mut self, q: QueueFile) -> Answer {
+        self.held = Some(q);
+        Ok(Told::Nothing)
     }
 }
 
 // `grow_length L R D`, which needs no bench.
-pub fn grow_length(n: Numbers) -> Answer {
-    Answer::of_count(writing::compute_expanded_len(n.first, n.second, n.third))
+pub fn grow_length(line: &[u8]) -> Answer {
+    let [len, remaining, span] = words::numbers::<3>(line)?;
+    Ok(Told::Number(writing::compute_expanded_len(len, remaining, span)?))
 }

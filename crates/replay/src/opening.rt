@@ -1,65 +1,57 @@
 // The operations that open a queue, `image`, `reopen` and `strict`, and those that change its settings, `overwrite` and `capacity`.
-use crate::answer::Answer;
-use crate::done::{Done, Held};
-use crate::words::Numbers;
-use queue::{Opened, QueueFile, Settings};
+use crate::answer::{Answer, Fault, Told};
+use crate::bench::Bench;
+use crate::words;
+use queue::{QueueFile, Settings};
 
-// `image HEX CAPACITY OVERWRITE`. The bytes stay where the opening is refused, so the state of those before them does not.
-pub fn image(image: &mut [u8], bytes: &[u8], n: Numbers) -> Done {
-    wire::fill(image, 0);
-    wire::put(image, 0, bytes);
-    let settings = settings_of(n.second, n.third);
-    opened(
-        queue::open(image, bytes.len() as u64, settings),
-        Held::Nothing,
-    )
-}
+impl Bench {
+    // `image HEX CAPACITY OVERWRITE`. The bytes stay where the opening is refused, so the state of those before them does not.
+    pub fn load(&mut self, line: &[u8]) -> Answer {
+        let [capacity, overwrite] = words::numbers_from::<2>(line, 2)?;
+        let settings = words::settings(capacity, overwrite)?;
+        let bytes = words::string(line, 1, &mut self.strings)?;
+        let len = bytes.len() as u64;
+        wire::fill(&mut self.image, 0);
+        wire::put(&mut self.image, 0, bytes);
+        self.held = None;
+        let opened = queue::open(&self.image, len, settings)?;
+        self.keep(opened)
+    }
 
-// `reopen CAPACITY OVERWRITE`
-pub fn reopen(image: &[u8], n: Numbers, q: QueueFile) -> Done {
-    let settings = settings_of(n.first, n.second);
-    opened(queue::open(image, q.real_len, settings), Held::State(q))
-}
+    // `reopen CAPACITY OVERWRITE`
+    pub fn reopen(&mut self, line: &[u8], q: QueueFile) -> Answer {
+        let settings = settings(line)?;
+        let opened = queue::open(&self.image, q.real_len, settings)?;
+        self.keep(opened)
+    }
 
-// `strict CAPACITY OVERWRITE`
-pub fn reopen_strictly(image: &[u8], n: Numbers, q: QueueFile) -> Done {
-    let settings = settings_of(n.first, n.second);
-    opened(
-        queue::open_strict(image, q.real_len, settings),
-        Held::State(q),
-    )
-}
+    // `strict CAPACITY OVERWRITE`
+    pub fn reopen_strictly(&mut self, line: &[u8], q: QueueFile) -> Answer {
+        let settings = settings(line)?;
+        let opened = queue::open_strict(&self.image, q.real_len, settings)?;
+        self.keep(opened)
+    }
 
-pub fn settings_of(capacity: u64, flag: u64) -> Settings {
-    Settings {
-        capacity: capacity,
-        overwrite_on_remove: flag == 1,
+    // `overwrite 0/1`
+    pub fn set_overwrite(&mut self, line: &[u8], q: QueueFile) -> Answer {
+        let [overwrite] = words::numbers::<1>(line)?;
+        let mut after = q;
+        after.settings.overwrite_on_remove = words::flag(overwrite)?;
+        self.held = Some(after);
+        Ok(Told::Nothing)
+    }
+
+    // `capacity N`
+    pub fn set_capacity(&mut self, line: &[u8], q: QueueFile) -> Answer {
+        let [capacity] = words::numbers::<1>(line)?;
+        let mut after = q;
+        after.settings.capacity = capacity;
+        self.held = Some(after);
+        Ok(Told::Nothing)
     }
 }
 
-// What an opening leaves: the state of the queue, and this where it is refused.
-fn opened(opened: Opened, otherwise: Held) -> Done {
-    match opened {
-        Opened::Queue(q) => Done::on_bench(Answer::done(), q),
-        Opened::Refused(refusal) => Done::leaving(Answer::of_refusal(refusal), otherwise),
-    }
-}
-
-// `overwrite 0/1`
-pub fn set_overwrite(n: Numbers, q: QueueFile) -> Done {
-    let settings = q.settings;
-    with_settings(settings_of(settings.capacity, n.first), q)
-}
-
-// `capacity N`
-pub fn set_capacity(n: Numbers, q: QueueFile) -> Done {
-    let mut settings = q.settings;
-    settings.capacity = n.first;
-    with_settings(settings, q)
-}
-
-fn with_settings(settings: Settings, q: QueueFile) -> Done {
-    let mut after = q;
-    after.settings = settings;
-    Done::on_bench(Answer::done(), after)
+fn settings(line: &[u8]) -> Result<Settings, Fault> {
+    let [capacity, overwrite] = words::numbers::<2>(line)?;
+    words::settings(capacity, overwrite)
 }

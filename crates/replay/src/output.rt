@@ -1,163 +1,143 @@
 // The line of an operation: the refusal, the state where it is shown, and the answer.
-use crate::answer::{Answer, Tail};
-use crate::done::{Done, Held};
+use crate::answer::{Answer, Fault, Told};
+use crate::bench::Bench;
 use crate::listing::{put_elements, put_step};
-use crate::slots::letter;
-use crate::text::{put, put_between, put_decimals, put_hex, put_refusal, put_sum};
+use format::V2OpenState;
+use header::SlotData;
 use queue::QueueFile;
+use refusal::Refusal;
 use std::io;
 use std::io::Write;
 
-// Appends the line of an operation: `output` is where the operation put what it read.
-pub fn put_done<W: Write>(
+// The line of an operation on this bench.
+pub fn put_line<W: Write>(
     out: &mut W,
-    buf: &mut [u8],
-    len: usize,
-    done: Done,
-    image: &[u8],
-    output: &mut [u8],
-) -> io::Result<usize> {
-    let answer = done.answer;
-    if answer.bad {
-        return put(out, buf, len, b"bad\n");
+    answer: Answer,
+    shown: Option<QueueFile>,
+    bench: &mut Bench,
+) -> io::Result<()> {
+    match answer {
+        Err(Fault::Bad) => writeln!(out, "bad"),
+        Err(Fault::Refused(refusal)) => {
+            put_refusal(out, refusal)?;
+            put_shown(out, shown, &bench.image)?;
+            writeln!(out, " : ")
+        }
+        Ok(told) => {
+            write!(out, "0 0 0")?;
+            put_shown(out, shown, &bench.image)?;
+            write!(out, " : ")?;
+            put_told(out, told, bench)?;
+            writeln!(out, "")
+        }
     }
-    let refusal = answer.refusal;
-    let shown = done.shown;
-    let state = put_refusal(out, buf, len, refusal)?;
-    let colon = put_shown(out, buf, state, shown, image)?;
-    put_answer(out, buf, colon, answer, image, output)
 }
 
-// Appends the colon, what an answer has where nothing is refused, and the line's end.
-fn put_answer<W: Write>(
-    out: &mut W,
-    buf: &mut [u8],
-    len: usize,
-    answer: Answer,
-    image: &[u8],
-    output: &mut [u8],
-) -> io::Result<usize> {
-    let tail = answer.tail;
-    let start = put(out, buf, len, b" : ")?;
-    let rest = put_result(out, buf, start, answer)?;
-    let end = put_tail(out, buf, rest, tail, image, output)?;
-    put(out, buf, end, b"\n")
+// A refusal's number and its two values.
+pub fn put_refusal<W: Write>(out: &mut W, refusal: Refusal) -> io::Result<()> {
+    let (first, second) = refusal.values();
+    write!(out, "{} {first} {second}", refusal.number())
 }
 
-// Appends the state and the checksum of the image up to its real length, where they are shown.
-fn put_shown<W: Write>(
-    out: &mut W,
-    buf: &mut [u8],
-    len: usize,
-    shown: Held,
-    image: &[u8],
-) -> io::Result<usize> {
-    let Held::State(q) = shown else {
-        return Ok(len);
+// The state and the checksum of the image up to its real length, where they are shown.
+fn put_shown<W: Write>(out: &mut W, shown: Option<QueueFile>, image: &[u8]) -> io::Result<()> {
+    let Some(q) = shown else {
+        return Ok(());
     };
-    let end = put_state(out, buf, len, q)?;
-    let start = put(out, buf, end, b" ")?;
     let sum = crc::crc32(wire::part(image, 0, q.real_len as usize));
-    put_sum(out, buf, start, sum)
+    put_state(out, q)?;
+    write!(out, " {sum:08x}")
 }
 
-// Appends a state.
-fn put_state<W: Write>(out: &mut W, buf: &mut [u8], len: usize, q: QueueFile) -> io::Result<usize> {
-    let format = q.format;
-    let slot = format.active_slot;
-    let first = q.first;
-    let last = q.last;
-    let settings = q.settings;
-    let numbers = [
-        format.generation,
-        q.file_len,
-        q.real_len,
-        q.elem_cnt as u64,
-        format.next_seq,
-        first.pos,
-        first.len,
-        first.seq,
-        last.pos,
-        last.len,
-        last.seq,
-        settings.capacity,
-        flag(settings.overwrite_on_remove),
-    ];
-    let start = put(out, buf, len, &[b' ', letter(slot), b' '])?;
-    put_decimals(out, buf, start, &numbers, 13, b" ")
-}
-
-fn flag(on: bool) -> u64 {
-    if on { 1 } else { 0 }
-}
-
-// Appends what an answer has before its tail.
-fn put_result<W: Write>(
-    out: &mut W,
-    buf: &mut [u8],
-    len: usize,
-    answer: Answer,
-) -> io::Result<usize> {
-    let numbers = answer.numbers;
-    let bytes = answer.bytes;
-    let count = answer.number_count;
-    let start = put_letter(out, buf, len, answer.letter)?;
-    let end = put_decimals(out, buf, start, &numbers, count, b" ")?;
-    put_bytes(
+fn put_state<W: Write>(out: &mut W, q: QueueFile) -> io::Result<()> {
+    let QueueFile {
+        file_len,
+        real_len,
+        format,
+        elem_cnt,
+        first,
+        last,
+        settings,
+    } = q;
+    write!(
         out,
-        buf,
-        end,
-        count,
-        wire::part(&bytes, 0, answer.byte_count),
+        " {} {} {file_len} {real_len} {elem_cnt} {}",
+        format.active_slot, format.generation, format.next_seq
+    )?;
+    // `Element` is another crate's, so no `Display` can be given to it here.
+    write!(out, " {} {} {}", first.pos, first.len, first.seq)?;
+    write!(out, " {} {} {}", last.pos, last.len, last.seq)?;
+    write!(
+        out,
+        " {} {}",
+        settings.capacity,
+        u64::from(settings.overwrite_on_remove)
     )
 }
 
-// Appends a letter and a space, where there is a letter.
-fn put_letter<W: Write>(out: &mut W, buf: &mut [u8], len: usize, letter: u8) -> io::Result<usize> {
-    if letter == 0 {
-        return Ok(len);
-    }
-    put(out, buf, len, &[letter, b' '])
-}
-
-// Appends the bytes that stand behind so many numbers, where there are bytes.
-fn put_bytes<W: Write>(
-    out: &mut W,
-    buf: &mut [u8],
-    len: usize,
-    count: usize,
-    bytes: &[u8],
-) -> io::Result<usize> {
-    if bytes.len() == 0 {
-        return Ok(len);
-    }
-    let start = put_between(out, buf, len, count, b" ")?;
-    put_hex(out, buf, start, bytes)
-}
-
-// Appends an answer's tail.
-fn put_tail<W: Write>(
-    out: &mut W,
-    buf: &mut [u8],
-    len: usize,
-    tail: Tail,
-    image: &[u8],
-    output: &mut [u8],
-) -> io::Result<usize> {
-    match tail {
-        Tail::Nothing => Ok(len),
-        Tail::Empty => put(out, buf, len, b"empty"),
-        Tail::End => put(out, buf, len, b"end"),
-        Tail::Output(n) => put_output(out, buf, len, wire::part(output, 0, n)),
-        Tail::Step(step) => put_step(out, buf, len, step, output),
-        Tail::Elements(q) => put_elements(out, buf, len, q, image, output),
+// What an operation tells.
+fn put_told<W: Write>(out: &mut W, told: Told, bench: &mut Bench) -> io::Result<()> {
+    match told {
+        Told::Nothing => Ok(()),
+        Told::Empty => write!(out, "empty"),
+        Told::End => write!(out, "end"),
+        Told::Number(n) => write!(out, "{n}"),
+        Told::Checksum(sum) => write!(out, "{sum:08x}"),
+        Told::Payload(len, sum) => write!(out, "{len} {sum:08x}"),
+        Told::Place(part) => write!(out, "{} {}", part.offset, part.len),
+        Told::Head(elem) => write!(out, "{} {} {}", elem.pos, elem.len, elem.seq),
+        Told::Slot(data) => put_slot(out, data),
+        Told::Elected(state) => put_elected(out, state),
+        Told::Header(data) => write!(out, "{} {} {}", data.payload_len, data.seq, data.prev_pos),
+        Told::FileHeader(data) => write!(
+            out,
+            "{} {} {} {}",
+            data.file_len, data.elem_cnt, data.first_pos, data.last_pos
+        ),
+        Told::SlotBytes(bytes) => put_hex(out, &bytes),
+        Told::HeaderBytes(bytes) => put_hex(out, &bytes),
+        Told::FooterBytes(bytes) => put_hex(out, &bytes),
+        Told::LegacyBytes(bytes) => put_hex(out, &bytes),
+        Told::V1Bytes(bytes) => put_hex(out, &bytes),
+        Told::Output(n) => put_output(out, wire::part(&bench.output, 0, n)),
+        Told::Step(step) => put_step(out, step, &bench.output),
+        Told::Elements(q) => put_elements(out, q, &bench.image, &mut bench.output),
     }
 }
 
-// Appends what was read into the output, a byte string: `-` where it has no bytes.
-fn put_output<W: Write>(out: &mut W, buf: &mut [u8], len: usize, read: &[u8]) -> io::Result<usize> {
-    if read.len() == 0 {
-        return put(out, buf, len, b"-");
+fn put_slot<W: Write>(out: &mut W, data: SlotData) -> io::Result<()> {
+    write!(
+        out,
+        "{} {} {} {} {} {}",
+        data.file_length,
+        data.element_count,
+        data.first_position,
+        data.last_position,
+        data.generation,
+        data.next_sequence_number
+    )
+}
+
+fn put_elected<W: Write>(out: &mut W, state: V2OpenState) -> io::Result<()> {
+    write!(out, "{} ", state.active_slot)?;
+    put_slot(out, state.slot)
+}
+
+// What was read into the output, a byte string: `-` where it has no bytes.
+fn put_output<W: Write>(out: &mut W, read: &[u8]) -> io::Result<()> {
+    if read.is_empty() {
+        return write!(out, "-");
     }
-    put_hex(out, buf, len, read)
+    put_hex(out, read)
+}
+
+// Bytes in lower-case hex, 64 at a time: a `write!` for each is five times slower.
+fn put_hex<W: Write>(out: &mut W, bytes: &[u8]) -> io::Result<()> {
+    for part in bytes.chunks(64) {
+        let mut room = [0; 128];
+        let text = &mut room[..2 * part.len()];
+        hex::encode_to_slice(part, text).unwrap();
+        out.write_all(text)?;
+    }
+    Ok(())
 }

@@ -1,91 +1,95 @@
 // The operations that set the bench up: `state`, `poke` and `extend`.
-use crate::answer::Answer;
-use crate::done::{Done, Held};
-use crate::words::{Shape, fill_numbers, place};
+use crate::answer::{Answer, Fault, Told};
+use crate::bench::Bench;
+use crate::words;
 use format::V2Format;
 use header::HeaderSlot;
-use queue::{Element, QueueFile, Settings};
+use queue::{Element, QueueFile};
 
-// `state SLOT GENERATION FILE_LEN REAL_LEN COUNT NEXT_SEQ FIRST_POS FIRST_LEN FIRST_SEQ LAST_POS LAST_LEN LAST_SEQ CAPACITY OVERWRITE`.
-// No other line has so many words, so they are read here.
-pub fn give(line: &[u8], held: Held) -> Done {
-    let slot = place(script::word(line, 1), b"A B");
-    if slot > 1 {
-        return Done::bad(held);
+impl Bench {
+    // `state SLOT GENERATION FILE_LEN REAL_LEN COUNT NEXT_SEQ FIRST_POS FIRST_LEN FIRST_SEQ LAST_POS LAST_LEN LAST_SEQ CAPACITY
+    // OVERWRITE`
+    pub fn give(&mut self, line: &[u8]) -> Answer {
+        self.held = Some(state(line)?);
+        Ok(Told::Nothing)
     }
-    let mut n = [0u64; 15];
-    // The slot is no number: the shape has a byte string in its place, and only the numbers are read by it.
-    if !fill_numbers(line, Shape::of_words(15, 1, 0).with_flag(14), &mut n) {
-        return Done::bad(held);
+
+    // `poke OFFSET HEX`
+    pub fn poke(&mut self, line: &[u8]) -> Answer {
+        words::count(line, 3)?;
+        let offset = words::number(line, 1)?;
+        let bytes = words::string(line, 2, &mut self.strings)?;
+        let end = offset.checked_add(bytes.len() as u64).ok_or(Fault::Bad)?;
+        let place = place(&mut self.image, offset, end)?;
+        wire::put(place, 0, bytes);
+        Ok(Told::Nothing)
     }
-    if n[5] > 0xffff_ffff {
-        return Done::bad(held);
+
+    // `extend N`. A file that grows has bytes that nobody wrote: a5 tells them from bytes that were made zero.
+    pub fn extend(&mut self, line: &[u8], q: QueueFile) -> Answer {
+        let [n] = words::numbers::<1>(line)?;
+        let mut after = q;
+        after.real_len = q.real_len.checked_add(n).ok_or(Fault::Bad)?;
+        let grown = place(&mut self.image, q.real_len, after.real_len)?;
+        wire::fill(grown, 0xa5);
+        self.held = Some(after);
+        Ok(Told::Nothing)
     }
-    let state = state_of(slot_at(slot), n[5] as u32, n);
-    Done::on_bench(Answer::done(), state)
 }
 
-// The state with this slot, this count and the other numbers of a line, each at its word's place.
-fn state_of(slot: HeaderSlot, count: u32, n: [u64; 15]) -> QueueFile {
-    QueueFile {
-        file_len: n[3],
-        real_len: n[4],
+// The bytes of the image between two places, all of which have to be there.
+fn place(image: &mut [u8], start: u64, end: u64) -> Result<&mut [u8], Fault> {
+    image
+        .get_mut(start as usize..end as usize)
+        .ok_or(Fault::Bad)
+}
+
+// The state that the words of a line spell. A count has 32 bits: a larger one is a bad word.
+fn state(line: &[u8]) -> Result<QueueFile, Fault> {
+    let active_slot = slot(script::word(line, 1))?;
+    let [
+        generation,
+        file_len,
+        real_len,
+        count,
+        next_seq,
+        first_pos,
+        first_len,
+        first_seq,
+        last_pos,
+        last_len,
+        last_seq,
+        capacity,
+        overwrite,
+    ] = words::numbers_from::<13>(line, 2)?;
+    Ok(QueueFile {
+        file_len,
+        real_len,
         format: V2Format {
-            active_slot: slot,
-            generation: n[2],
-            next_seq: n[6],
+            active_slot,
+            generation,
+            next_seq,
         },
-        elem_cnt: count,
+        elem_cnt: u32::try_from(count).map_err(|_| Fault::Bad)?,
         first: Element {
-            pos: n[7],
-            len: n[8],
-            seq: n[9],
+            pos: first_pos,
+            len: first_len,
+            seq: first_seq,
         },
         last: Element {
-            pos: n[10],
-            len: n[11],
-            seq: n[12],
+            pos: last_pos,
+            len: last_len,
+            seq: last_seq,
         },
-        settings: Settings {
-            capacity: n[13],
-            overwrite_on_remove: n[14] == 1,
-        },
-    }
+        settings: words::settings(capacity, overwrite)?,
+    })
 }
 
-fn slot_at(place: usize) -> HeaderSlot {
-    if place == 0 {
-        HeaderSlot::A
-    } else {
-        HeaderSlot::B
+// `HeaderSlot` is another crate's, so no conversion can be given to it here.
+fn slot(word: &[u8]) -> Result<HeaderSlot, Fault> {
+    match word {
+        b"A" => Ok(HeaderSlot::A),
+        b"B" => Ok(HeaderSlot::B),
+        _ => Err(Fault::Bad),
     }
-}
-
-// `poke OFFSET HEX`
-pub fn poke(image: &mut [u8], offset: u64, bytes: &[u8]) -> Answer {
-    let at = offset as usize;
-    if at > image.len() {
-        return Answer::bad();
-    }
-    if bytes.len() > image.len() - at {
-        return Answer::bad();
-    }
-    wire::put(image, at, bytes);
-    Answer::done()
-}
-
-// `extend N`. A file that grows has bytes that nobody wrote: a5 tells them from bytes that were made zero.
-pub fn extend(image: &mut [u8], n: u64, q: QueueFile) -> Done {
-    let len = n as usize;
-    let start = q.real_len as usize;
-    if start > image.len() {
-        return Done::bad(Held::State(q));
-    }
-    if len > image.len() - start {
-        return Done::bad(Held::State(q));
-    }
-    wire::fill_at(image, start, len, 0xa5);
-    let mut after = q;
-    after.real_len = (start + len) as u64;
-    Done::on_bench(Answer::done(), after)
 }

@@ -1,75 +1,42 @@
 // The operations on header slots: `slot_encode`, `slot_parse`, `slot_check` and `elect`.
-use crate::answer::Answer;
-use crate::words::Numbers;
-use format::{Elected, V2OpenState};
-use header::{HeaderSlot, ParsedSlot, SlotData};
+use crate::answer::{Answer, Fault, Told};
+use crate::words;
+use header::SlotData;
 
 // `slot_encode FILE_LEN COUNT FIRST LAST GENERATION NEXT_SEQ`
-pub fn encode(n: Numbers) -> Answer {
-    let encoded = header::encode_v2_slot(n.first, n.second, n.third, n.fourth, n.fifth, n.sixth);
-    let verdict = encoded.answer;
-    Answer::of_bytes(verdict, &encoded.bytes)
+pub fn encode(line: &[u8]) -> Answer {
+    let [file_len, count, first, last, generation, next_seq] = words::numbers::<6>(line)?;
+    let bytes = header::encode_v2_slot(file_len, count, first, last, generation, next_seq)?;
+    Ok(Told::SlotBytes(bytes))
 }
 
 // `slot_parse HEX`
-pub fn parse(slot: &[u8]) -> Answer {
-    match header::parse_slot(slot) {
-        ParsedSlot::Slot(data) => fields(data),
-        ParsedSlot::Refused(refusal) => Answer::of_refusal(refusal),
-    }
+pub fn parse(line: &[u8], room: &mut [u8]) -> Answer {
+    words::count(line, 2)?;
+    let slot = words::string(line, 1, room)?;
+    Ok(Told::Slot(header::parse_slot(slot)?))
 }
 
 // `slot_check FILE_LEN COUNT FIRST LAST GENERATION NEXT_SEQ REAL_LEN`. What is checked is a slot's data, whose count has 32 bits: a
 // larger one is a bad word.
-pub fn check(n: Numbers) -> Answer {
-    if n.second > 0xffff_ffff {
-        return Answer::bad();
-    }
+pub fn check(line: &[u8]) -> Answer {
+    let [file_len, count, first, last, generation, next_seq, real_len] = words::numbers::<7>(line)?;
     let data = SlotData {
-        file_length: n.first,
-        element_count: n.second as u32,
-        first_position: n.third,
-        last_position: n.fourth,
-        generation: n.fifth,
-        next_sequence_number: n.sixth,
+        file_length: file_len,
+        element_count: u32::try_from(count).map_err(|_| Fault::Bad)?,
+        first_position: first,
+        last_position: last,
+        generation,
+        next_sequence_number: next_seq,
     };
-    let verdict = format::validate_v2_slot_data(data, n.seventh);
-    Answer::of_refusal(verdict.refusal())
+    format::validate_v2_slot_data(data, real_len)?;
+    Ok(Told::Nothing)
 }
 
 // `elect HEX HEX`. A string that does not parse counts as no slot.
-pub fn elect(a: &[u8], b: &[u8]) -> Answer {
-    let slot_a = header::parse_slot(a);
-    let slot_b = header::parse_slot(b);
-    match format::elect_canonical_slot(slot_a, slot_b) {
-        Elected::Slot(state) => open_state(state),
-        Elected::Refused(refusal) => Answer::of_refusal(refusal),
-    }
-}
-
-fn open_state(state: V2OpenState) -> Answer {
-    let active_slot = state.active_slot;
-    let slot = state.slot;
-    let mut answer = fields(slot);
-    answer.letter = letter(active_slot);
-    answer
-}
-
-pub fn letter(slot: HeaderSlot) -> u8 {
-    match slot {
-        HeaderSlot::A => b'A',
-        HeaderSlot::B => b'B',
-    }
-}
-
-fn fields(data: SlotData) -> Answer {
-    let numbers = [
-        data.file_length,
-        data.element_count as u64,
-        data.first_position,
-        data.last_position,
-        data.generation,
-        data.next_sequence_number,
-    ];
-    Answer::of_numbers(numbers, 6)
+pub fn elect(line: &[u8], room: &mut [u8]) -> Answer {
+    words::count(line, 3)?;
+    let (a, b) = words::two_strings(line, 1, 2, room)?;
+    let state = format::elect_canonical_slot(header::parse_slot(a), header::parse_slot(b))?;
+    Ok(Told::Elected(state))
 }

@@ -80,3 +80,10 @@ distance_there size p q h =
     ∙ sym (mod-add-mod p size (q + (size - p % size)))
     ∙ ap (λ (x : ℕ). x % size) t
     ∙ add-mod_right q size
+
+-- the two ways to a distance between places of the ring
+pub onwards : (size p q : ℕ) → p ≤ q → q < size → ring_distance size p q ≡ q - p
+onwards size p q h l = rw (turn_low size p (omega arith)) (turn_high size (q + (size - p)) (omega arith) (omega arith) ∙ omega arith)
+
+pub over_the_end : (size p q : ℕ) → q < p → p < size → ring_distance size p q ≡ size - (p - q)
+over_the_end size p q h l = rw (turn_low size p l) (turn_low size (q + (size - p)) (omega arith) ∙ omega arith)

@@ -1,16 +1,12 @@
 -- The ring of bytes that lies in an image from `start` on: of a ring of `size` bytes the place p is the image's byte start + p mod
 -- size. Places are not bounded: one that passes the ring's end goes on at its start.
 -- Assumes nothing.
-use Rattle.std.specs.Prelude.{ℕ, zero, suc, ◌+◌, ◌-◌, ◌%◌, ◌^◌, ◌≤◌, min, ◌≡◌, ◌⊎◌, Bool, ◌&&◌, List, [], ◌∷◌, get_or, set, take, drop, replicate, ltb, leb}
-use Rattle.refusal.specs.Table.{none, overflow, unsound}
+use Rattle.std.specs.Prelude.{ℕ, zero, suc, ◌+◌, ◌-◌, ◌%◌, ◌^◌, min, Bool, ◌&&◌, List, [], ◌∷◌, get_or, set, take, drop, replicate, ltb, leb, Result, Ok, Err}
+use Rattle.refusal.specs.declared.Refusal.TheVariants.{Overflow, Unsound}
 use Rattle.refusal.specs.Demand.{demand}
 use Rattle.refusal.specs.declared.Refusal.{Refusal}
-use Rattle.refusal.specs.declared.Verdict as Answer
-use Rattle.refusal.specs.declared.Verdict.TheVariants as Verdict
 use Rattle.wire.specs.Wire.{bytes_at, put_at}
-use Rattle.ring.specs.declared.place.Placed.{Placed}
 use Rattle.ring.specs.declared.parts.Parts.{Parts}
-use Rattle.ring.specs.declared.parts.Parted.{Parted}
 
 -- ---- its bytes
 
@@ -43,15 +39,15 @@ unfoldable pub has_ring : ℕ → ℕ → ℕ → Bool
 has_ring start len file = ltb start file && leb file len
 
 -- what a read, a write or an erasure answers, in an image of len bytes
-abbrev pub judge_ring : ℕ → ℕ → ℕ → Answer.Verdict
-judge_ring start len file = demand (has_ring start len file) (Verdict.Refused unsound) Verdict.Granted
+abbrev pub judge_ring : ℕ → ℕ → ℕ → Result (Unit {0}) Refusal
+judge_ring start len file = demand (has_ring start len file) (Err Unsound) (Ok tt)
 
 -- what a relocation of c bytes answers: they lie before `old`, and the image has room for them there
-abbrev pub judge_relocation : ℕ → ℕ → ℕ → ℕ → Answer.Verdict
+abbrev pub judge_relocation : ℕ → ℕ → ℕ → ℕ → Result (Unit {0}) Refusal
 judge_relocation start len old c =
-    demand (leb (start + c) old) (Verdict.Refused unsound)
-    (demand (leb (old + c) len) (Verdict.Refused unsound)
-    Verdict.Granted)
+    demand (leb (start + c) old) (Err Unsound)
+    (demand (leb (old + c) len) (Err Unsound)
+    (Ok tt))
 
 -- ---- places
 
@@ -64,23 +60,18 @@ abbrev pub ring_distance : ℕ → ℕ → ℕ → ℕ
 ring_distance size p q = (q + (size - p % size)) % size
 
 -- the two as calls answer them, on an image of len bytes: a sum has to fit a u64, a distance is between places of the ring
-abbrev pub add_places : ℕ → ℕ → ℕ → ℕ → ℕ → Placed
+abbrev pub add_places : ℕ → ℕ → ℕ → ℕ → ℕ → Result ℕ Refusal
 add_places start len file p d =
-    demand (has_ring start len file) (Placed.Refused unsound)
-    (demand (leb (p + d) (2 ^ 64 - 1)) (Placed.Refused overflow)
-    (Placed.At (ring_add (file - start) p d)))
+    demand (has_ring start len file) (Err Unsound)
+    (demand (leb (p + d) (2 ^ 64 - 1)) (Err Overflow)
+    (Ok (ring_add (file - start) p d)))
 
-abbrev pub distance_of_places : ℕ → ℕ → ℕ → ℕ → ℕ → Placed
+abbrev pub distance_of_places : ℕ → ℕ → ℕ → ℕ → ℕ → Result ℕ Refusal
 distance_of_places start len file p q =
-    demand (has_ring start len file) (Placed.Refused unsound)
-    (demand (ltb p (file - start)) (Placed.Refused unsound)
-    (demand (ltb q (file - start)) (Placed.Refused unsound)
-    (Placed.At (ring_distance (file - start) p q))))
-
--- the number and two values of each answer
-abbrev pub placed_refusal : Placed → Refusal
-placed_refusal (Placed.At p) = none
-placed_refusal (Placed.Refused r) = r
+    demand (has_ring start len file) (Err Unsound)
+    (demand (ltb p (file - start)) (Err Unsound)
+    (demand (ltb q (file - start)) (Err Unsound)
+    (Ok (ring_distance (file - start) p q))))
 
 -- ---- the parts of an interval that is no longer than the ring
 
@@ -96,30 +87,17 @@ abbrev pub parts_of : ℕ → ℕ → ℕ → ℕ → Parts
 parts_of start size p n =
     record { offset = phys_pos start size p; front_len = front_len size p n; wrapped_len = wrapped_len size p n }
 
-abbrev pub ring_parts : ℕ → ℕ → ℕ → ℕ → ℕ → Parted
+abbrev pub ring_parts : ℕ → ℕ → ℕ → ℕ → ℕ → Result Parts Refusal
 ring_parts start len file p n =
-    demand (has_ring start len file) (Parted.Refused unsound)
-    (demand (leb n (file - start)) (Parted.Refused unsound)
-    (Parted.Parts (parts_of start (file - start) p n)))
-
--- the number and two values of each answer
-abbrev pub parted_refusal : Parted → Refusal
-parted_refusal (Parted.Parts p) = none
-parted_refusal (Parted.Refused r) = r
+    demand (has_ring start len file) (Err Unsound)
+    (demand (leb n (file - start)) (Err Unsound)
+    (Ok (parts_of start (file - start) p n)))
 
 -- the bytes of each part; none where the parts are refused
-abbrev pub front_bytes : List ℕ → Parted → List ℕ
-front_bytes img (Parted.Parts p) = take p.front_len (drop p.offset img)
-front_bytes img (Parted.Refused r) = []
+abbrev pub front_bytes : List ℕ → Result Parts Refusal → List ℕ
+front_bytes img (Ok p) = take p.front_len (drop p.offset img)
+front_bytes img (Err r) = []
 
-abbrev pub wrapped_bytes : ℕ → List ℕ → Parted → List ℕ
-wrapped_bytes start img (Parted.Parts p) = take p.wrapped_len (drop start img)
-wrapped_bytes start img (Parted.Refused r) = []
-
--- ---- what the workers go by
-
--- of len bytes from `at` on, k lie before the ring's end: all, or as many as there are
-pub record Segment (size at len k : ℕ) : Type 0 where
-  pub inside : at + k ≤ size
-  pub within : k ≤ len
-  pub ends : (at + k ≡ size) ⊎ (k ≡ len)
+abbrev pub wrapped_bytes : ℕ → List ℕ → Result Parts Refusal → List ℕ
+wrapped_bytes start img (Ok p) = take p.wrapped_len (drop start img)
+wrapped_bytes start img (Err r) = []

@@ -1,9 +1,7 @@
 -- Byte strings: two lower-case hex digits a byte, `-` for none, at most 262,144 bytes.
 -- Assumes nothing.
-use Rattle.std.specs.Prelude.{ℕ, ◌+◌, ◌*◌, ◌%◌, Bool, cond, ◌&&◌, ◌||◌, List, [], ◌∷◌, ◌++◌, eqb, leb, ltb, length, get_or, drop}
+use Rattle.std.specs.Prelude.{ℕ, ◌+◌, ◌*◌, ◌%◌, Bool, cond, ◌&&◌, ◌||◌, List, [], ◌∷◌, ◌++◌, eqb, leb, ltb, length, get_or, drop, Option, Some, None}
 use Rattle.script.specs.Digit.{worth_of, all_below}
-use Rattle.script.specs.declared.hex.Bytes.{Bytes}
-use Rattle.script.specs.declared.hex.Bytes.TheVariants.{Of, Bad}
 
 -- `-`
 unfoldable pub is_dash : List ℕ → Bool
@@ -20,8 +18,8 @@ unhex (a ∷ []) = []
 unhex (a ∷ b ∷ s) = (worth_of a * 16 + worth_of b) ∷ unhex s
 
 -- how many bytes a word spells, and `out` with them at its start; where the word is no byte string or spells too many, `out` as it is
-unfoldable pub bytes_of : List ℕ → List ℕ → Bytes × List ℕ
+unfoldable pub bytes_of : List ℕ → List ℕ → Option ℕ × List ℕ
 bytes_of word out =
     cond ((is_dash word || is_hex word) && (leb (length (unhex word)) 262144 && leb (length (unhex word)) (length out)))
-    (Of (length (unhex word)), unhex word ++ drop (length (unhex word)) out)
-    (Bad, out)
+    (Some (length (unhex word)), unhex word ++ drop (length (unhex word)) out)
+    (None, out)

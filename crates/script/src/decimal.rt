@@ -1,35 +1,27 @@
-// Numbers: decimal, leading zeros allowed, at least one digit, and at most 2^64 - 1. A word that is none answers `Bad`.
+// Numbers: decimal, leading zeros allowed, at least one digit, and at most 2^64 - 1.
 ghost use Rattle.std.specs.Prelude.{◌≡◌};
 ghost use Rattle.script.specs.Decimal.{number_of};
 
-use crate::digit::worth;
+use crate::digit::digit;
 
-#[derive(Clone, Copy)]
-pub enum Number {
-    Of(u64),
-    Bad,
-}
-
-// The number that a word spells.
-pub fn parse_number(word: &[u8]) -> Number
+// The number that a word spells, if it spells one.
+pub fn parse_number(word: &[u8]) -> Option<u64>
     ensures { result ≡ number_of word.now }
 {
-    if word.len() == 0 {
-        return Number::Bad;
+    if word.is_empty() {
+        return None;
     }
     let mut n: u64 = 0;
-    let mut i = 0;
-    while i < word.len() {
-        let d = worth(word[i]) as u64;
+    for b in word {
+        let d = u64::from(digit(*b)?);
         if d > 9 {
-            return Number::Bad;
+            return None;
         }
-        // n * 10 + d would pass the largest u64.
+        // n * 10 + d would pass the largest u64. By `checked_mul` and `checked_add` a number takes half as long again.
         if n > (u64::MAX - d) / 10 {
-            return Number::Bad;
+            return None;
         }
         n = n * 10 + d;
-        i += 1;
     }
-    Number::Of(n)
+    Some(n)
 }

@@ -1,14 +1,15 @@
-// Digits, of numbers and of byte strings alike. A digit that is worth less than a base is one of that base, so one function serves both.
+// Digits, of numbers and of byte strings alike.
 ghost use Rattle.std.specs.Prelude.{◌≡◌};
-ghost use Rattle.script.specs.Digit.{worth_of};
+ghost use Rattle.script.specs.Digit.{digit_of};
 
-// What a digit is worth, and 16 where it is none.
-pub fn worth(b: u8) -> u8
-    ensures { result ≡ worth_of b }
+// What a digit is worth, if a byte is one.
+#[tactic(auto, using(std::proofs::lemmas::Bool::Decides::nat_tests), unfolding(crate::specs::Digit::digit_of))]
+pub fn digit(b: u8) -> Option<u8>
+    ensures { result ≡ digit_of b }
 {
     match b {
-        b'0'..=b'9' => b - b'0',
-        b'a'..=b'f' => b - b'a' + 10,
-        _ => 16,
+        b'0'..=b'9' => Some(b - b'0'),
+        b'a'..=b'f' => Some(b - b'a' + 10),
+        _ => None,
     }
 }

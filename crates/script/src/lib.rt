@@ -7,6 +7,6 @@ mod digit;
 mod hex;
 mod line;
 
-pub use decimal::{Number, parse_number};
-pub use hex::{Bytes, parse_bytes};
+pub use decimal::parse_number;
+pub use hex::parse_bytes;
 pub use line::{count_words, line_end, word};

@@ -10,8 +10,10 @@ use native.Mathlib.Omega.{arith}
 use lib.Arith.{digits_div, digits_mod}
 use lib.Dec.{eqb}
 use lib.ListN.{length, get_or, take, drop, length-append}
+use lib.Pointwise.{pointwise}
 use lib.Seq.{drop-cons}
 use borrow.Author.Tests.{eqb-true}
+use Rattle.std.proofs.lemmas.Bool.Decides.{nat_tests}
 use Rattle.wire.specs.Wire.{Bytes, be, be_onto, be_val, bytes_at, word, starts_with}
 
 -- ---- bytes
@@ -157,3 +159,12 @@ starts_with-take [] (x ∷ p) e = let z : ◌≡◌ {A = ℕ} 0 1 = cc in absurd
 starts_with-take (y ∷ s) (x ∷ p) e =
     let b = (and-eq-true_iff (eqb y x) (starts_with s p)).0 e in
     rw (eqb-true y x b.0, starts_with-take s p b.1)
+
+eqb_comm : (a b : ℕ) → eqb a b ≡ eqb b a
+eqb_comm a b = grind (arith, nat_tests)
+
+-- and std's test says the same
+pub starts_with_by_pairs : (s p : List ℕ) → pointwise eqb p (take (length p) s) ≡ starts_with s p
+starts_with_by_pairs s [] = refl
+starts_with_by_pairs [] (x ∷ p) = refl
+starts_with_by_pairs (y ∷ s) (x ∷ p) = rw (eqb_comm x y, starts_with_by_pairs s p)

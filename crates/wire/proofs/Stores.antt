@@ -1,14 +1,17 @@
 -- The laws of stores: what is stored is what is read back, and all else stays. Assumes nothing.
 use mathlib.Core.Path.{◌≡◌, refl, sym, ap, ◌∙◌}
-use mathlib.Core.Logic.{◌⊎◌, inl, inr}
+use mathlib.Core.Logic.{inl, inr}
 use mathlib.Core.List.{List, [], ◌∷◌, ◌++◌, append_assoc, append-nil}
-use Prim.Native.Nat.{ℕ, zero, suc, ◌+◌, ◌-◌, ◌≤◌, ◌<◌}
+use Prim.Native.Nat.{ℕ, zero, suc, ◌+◌, ◌-◌, ◌≤◌, ◌<◌, min}
 use native.Mathlib.Nat.{add-zero, zero-add, suc-add, add-suc}
 use native.Mathlib.Numerals.{add-one}
 use native.Mathlib.Omega.{arith}
-use lib.ListN.{length, get_or, take, drop, set, length-set, length-drop, length-append, take-append-drop, drop_of_length-le, replicate, length-replicate, replicate-append-replicate}
-use lib.Seq.{sets-eq, length-sets, drop-drop, length-take-le, set_out, get_or-set_same, get_or-set_other, take_all, take-set-le, drop-set-add, take-append_seam, drop-append_seam, drop-append-add}
-use borrow.Rule.Slice.PartMut.{mid_of, post_of, put_mid, same_len_mid}
+use lib.ListN.{length, get_or-eq_default, get_or, take, drop, set, length-set, length-drop, length-append, take-append-drop, drop_of_length-le, replicate, length-replicate}
+use lib.Seq.{sets-eq, drop-cons, drop-drop, length-take-le, set_out, get_or-set_same, get_or-set_other, take_all, take-set-le, drop-set-add, take-append_seam, drop-append_seam, drop-append-add}
+use borrow.Rule.Slice.PartMut.{mid_of, post_of, put_mid}
+use Rattle.std.proofs.lemmas.Bool.{cases_lt}
+use Rattle.std.proofs.lemmas.List.{take-replicate}
+use Rattle.wire.proofs.Numbers.{bytes_at_part}
 use Rattle.wire.specs.Wire.{Bytes, bytes_at, put_at}
 
 -- stores past the end go nowhere
@@ -104,61 +107,53 @@ put_at_mid out at src h =
     ap (λ (l : List ℕ). take at out ++ (src ++ l)) (drop-drop (length src) at out)
     ∙ sym (sets-eq src out at h ∙ append_assoc (take at out) src (drop (at + length src) out))
 
--- n bytes of one value are stored by storing k of them, where the others would go nowhere
-pub put_at-enough : (out : List ℕ) (at k n v : ℕ) → k ≤ n → (n ≤ k) ⊎ (length out - at ≤ k) → put_at out at (replicate k v) ≡ put_at out at (replicate n v)
-put_at-enough out at k n v h (inl e) = let same : k ≡ n = omega arith in rw same
-put_at-enough out at k n v h (inr e) =
-    let part : List ℕ = put_at out at (replicate k v) in
-    let size : length part ≡ length out = length-sets out at (replicate k v) in
-    let count : length (replicate k v) ≡ k = length-replicate k v in
-    let all : k + (n - k) ≡ n = omega arith in
-    sym
-    (ap (λ (l : List ℕ). put_at out at l) (sym (rw all at (replicate-append-replicate k (n - k) v)))
-    ∙ put_at-append out at (replicate k v) (replicate (n - k) v)
-    ∙ put_at_out part (at + length (replicate k v)) (replicate (n - k) v) (omega arith))
+-- a store behind the first element leaves that
+pub put_at-cons : (x : ℕ) (out : List ℕ) (at : ℕ) (src : List ℕ) → put_at (x ∷ out) (suc at) src ≡ x ∷ put_at out at src
+put_at-cons x out at [] = refl
+put_at-cons x out at (b ∷ src) = put_at-cons x (set out at b) (suc at) src
+
+-- bytes for which there is no room need not be stored
+put_at_room : (out : List ℕ) (at k : ℕ) (src : List ℕ) → k ≡ min (length src) (length out - at) → put_at out at (take k src) ≡ put_at out at src
+put_at_room out at zero [] e = refl
+put_at_room out at (suc k) [] e = refl
+put_at_room out at zero (b ∷ src) e = sym (put_at_out out at (b ∷ src) (omega arith))
+put_at_room out at (suc k) (b ∷ src) e = put_at_room (set out at b) (suc at) k src (omega (arith, length-set out at b))
+
+-- the first n bytes take the place of as many, where n is all that there are or all that there is room for
+pub put_at_front : (out src : List ℕ) (n : ℕ) → n ≡ min (length out) (length src) → take n src ++ drop n out ≡ put_at out 0 src
+put_at_front out src n e =
+    let count : length (take n src) ≡ n = length-take-le n src (omega arith) in
+    rw (count, zero-add) at (sym (sets-eq (take n src) out 0 (omega arith))) ∙ put_at_room out 0 n src (omega arith)
 
 -- what a part of k bytes that is lent comes back with, once it is filled, is a store of n in the whole, where k are enough
-pub put_at_filled : (out : List ℕ) (at k n v : ℕ) → at + k ≤ length out → k ≤ n → (n ≤ k) ⊎ (length out - at ≤ k) →
+pub put_at_filled : (out : List ℕ) (at k n v : ℕ) → at + k ≤ length out → k ≡ min n (length out - at) →
     put_mid at k out (replicate (length (mid_of at k out)) v) ≡ put_at out at (replicate n v)
-put_at_filled out at k n v w h e =
+put_at_filled out at k n v w e =
     let size : length (mid_of at k out) ≡ k = length-take-le k (drop at out) (rw length-drop (omega arith)) in
+    let all : length (replicate n v) ≡ n = length-replicate n v in
     let count : length (replicate k v) ≡ k = length-replicate k v in
-    rw size (rw count at (put_at_mid out at (replicate k v) (omega arith)) ∙ put_at-enough out at k n v h e)
+    let front : take k (replicate n v) ≡ replicate k v = take-replicate k n v (omega arith) in
+    rw size (rw count at (put_at_mid out at (replicate k v) (omega arith)) ∙ rw front at (put_at_room out at k (replicate n v) (omega arith)))
 
--- where the smaller of two lengths is reached, nothing is left to store, or no place to store it
-pub put_at_ended : (out src : List ℕ) (size n i : ℕ) → length out ≡ size → n ≤ i → (size ≤ n) ⊎ (length src ≤ n) → put_at out i (drop i src) ≡ out
-put_at_ended out src size n i e l (inl h) = put_at_out out i (drop i src) (omega arith)
-put_at_ended out src size n i e l (inr h) = rw (drop_of_length-le src {i = i} (omega arith))
+-- past the end there are zeros
+bytes_at_past : (w : ℕ) (s : List ℕ) (at : ℕ) → length s ≤ at → bytes_at w s at ≡ replicate w 0
+bytes_at_past zero s at h = refl
+bytes_at_past (suc w) s at h = rw (get_or-eq_default s 0 {n = at} h, bytes_at_past w s (at + 1) (omega arith))
 
--- bytes that are held at the front of others are stored from there as they are
-pub put_at_held : (out held src : List ℕ) → length out ≡ length src → length src ≤ length held → put_at out 0 (put_at held 0 src) ≡ src
-put_at_held out held src e h =
-    ap (put_at out 0) (sets-eq src held 0 (omega arith))
-    ∙ put_at-append out 0 src (drop (0 + length src) held)
-    ∙ rw (put_at_all out src (sym e)) (put_at_out src (0 + length src) (drop (0 + length src) held) (omega arith))
+-- so the bytes at a place are zeros with the bytes stored that there are
+pub bytes_at_padded : (w : ℕ) (s : List ℕ) (at : ℕ) → put_at (replicate w 0) 0 (take w (drop at s)) ≡ bytes_at w s at
+bytes_at_padded zero s at = refl
+bytes_at_padded (suc w) s at = elim (cases_lt at (length s)) [
+  | inl h ↦
+      let first : ℕ = get_or s at 0 in
+      rw (drop-cons s at 0, add-one)
+      (put_at-cons first (replicate w 0) 0 (take w (drop (suc at) s)) ∙ ap (λ (l : List ℕ). first ∷ l) (bytes_at_padded w s (suc at)))
+  | inr h ↦ rw (drop_of_length-le s {i = at} h) (sym (bytes_at_past (suc w) s at h))
+]
 
--- a part that is lent comes back with bytes of src: these are stored, and those from `next` on are still to be stored
-pub put_at_turn : {back : List ℕ} (out src : List ℕ) (at next : ℕ) → at ≤ next → next ≤ length out → next ≤ length src →
-    back ≡ take (next - at) (drop at src) → put_at (put_mid at (next - at) out back) next (drop next src) ≡ put_at out at (drop at src)
-put_at_turn out src at next l ho hs e =
-    let k : ℕ = next - at in
-    let part : List ℕ = take k (drop at src) in
-    let count : length part ≡ k = length-take-le k (drop at src) (rw length-drop (omega arith)) in
-    let stored : put_mid at k out part ≡ put_at out at part = rw count at (put_at_mid out at part (omega arith)) in
-    let end : at + k ≡ next = omega arith in
-    rw (e, stored)
-    (sym
-    (ap (put_at out at) (sym (take-append-drop k (drop at src)) ∙ ap (λ (l : List ℕ). part ++ l) (drop-drop k at src))
-    ∙ put_at-append out at part (drop (at + k) src)
-    ∙ rw (count, end)))
-
--- and where `next` is the smaller length, all are stored
-pub put_at-last : {back : List ℕ} (out src : List ℕ) (size at next : ℕ) → length out ≡ size → at ≤ next → next ≤ length out → next ≤ length src →
-    (size ≤ next) ⊎ (length src ≤ next) → back ≡ take (next - at) (drop at src) → put_mid at (next - at) out back ≡ put_at out at (drop at src)
-put_at-last {back} out src size at next n l ho hs h e =
-    let k : ℕ = next - at in
-    let count : length (take k (drop at src)) ≡ k = length-take-le k (drop at src) (rw length-drop (omega arith)) in
-    let room : length (mid_of at k out) ≡ k = length-take-le k (drop at out) (rw length-drop (omega arith)) in
-    let same : length back ≡ length (mid_of at k out) = ap length e ∙ count ∙ sym room in
-    sym (put_at_ended (put_mid at k out back) src size next next (same_len_mid at k out back same ∙ n) (omega arith) h)
-    ∙ put_at_turn out src at next l ho hs e
+-- and where all are there, they are the first of the rest
+pub bytes_at_first : (w : ℕ) (s : List ℕ) (at : ℕ) → w ≤ length (take (length s - at) (drop at s)) → at < length s → take w (take (length s - at) (drop at s)) ≡ bytes_at w s at
+bytes_at_first w s at h l =
+    let all : take (length s - at) (drop at s) ≡ drop at s = take_all (length s - at) (drop at s) (rw length-drop (omega arith)) in
+    let enough : w ≤ length s - at = rw (all, length-drop) at h in
+    rw all (sym (bytes_at_part w s at (omega arith)))

@@ -5,167 +5,95 @@
 // so says the definition that each contract cites, in specs/Wire.antt.
 #![tactic(auto)]
 
-ghost use Rattle.std.specs.Prelude.{◌≡◌, [], ◌∷◌, ◌⊎◌, ◌+◌, ◌≤◌, length, get_or, take, drop, replicate};
-ghost use Rattle.wire.specs.Wire.{be, be_val, word, put_at, starts_with};
+ghost use Rattle.std.specs.Prelude.{◌≡◌, ℕ, ◌≤◌, length, take, drop, replicate};
+ghost use Rattle.std.proofs.Common.{rules};
+ghost use Rattle.wire.specs.Wire.{be, be_val, bytes_at, word, put_at, starts_with};
 
-// The bytes of a number, the highest first.
-pub fn u32_bytes(v: u32) -> [u8; 4]
-    ensures { result ≡ be 4 v }
-{
-    let a = v / 256;
-    let b = a / 256;
-    let c = b / 256;
-    [
-        (c % 256) as u8,
-        (b % 256) as u8,
-        (a % 256) as u8,
-        (v % 256) as u8,
-    ]
+// A number of N bytes, which stand in a file with the highest first.
+pub trait Number<const N: usize>: Copy {
+    // The number as clauses have it, and back. At u32 and u64 that changes nothing.
+    ghost value: { Self → ℕ };
+
+    ghost with_value: { ℕ → Self };
+
+    fn bytes(self) -> [u8; N]
+        ensures { result ≡ be N (value self) };
+
+    fn of_bytes(bytes: &[u8; N]) -> Self
+        ensures { result ≡ with_value (be_val bytes.now) };
+
+    // So an array of them fits the memory.
+    ghost few: { N ≤ 8 };
 }
 
-pub fn u64_bytes(v: u64) -> [u8; 8]
-    ensures { result ≡ be 8 v }
-{
-    let a = v / 256;
-    let b = a / 256;
-    let c = b / 256;
-    let d = c / 256;
-    let e = d / 256;
-    let f = e / 256;
-    let g = f / 256;
-    [
-        (g % 256) as u8,
-        (f % 256) as u8,
-        (e % 256) as u8,
-        (d % 256) as u8,
-        (c % 256) as u8,
-        (b % 256) as u8,
-        (a % 256) as u8,
-        (v % 256) as u8,
-    ]
-}
+impl Number<4> for u32 {
+    ghost value = { λ n. n };
 
-// The number whose bytes are these, the highest first.
-fn of4(a: u8, b: u8, c: u8, d: u8) -> u32
-    ensures { result ≡ be_val (a ∷ b ∷ c ∷ d ∷ []) }
-{
-    ((a as u32 * 256 + b as u32) * 256 + c as u32) * 256 + d as u32
-}
+    ghost with_value = { λ n. n };
 
-fn of8(a: u8, b: u8, c: u8, d: u8, e: u8, f: u8, g: u8, h: u8) -> u64
-    ensures { result ≡ be_val (a ∷ b ∷ c ∷ d ∷ e ∷ f ∷ g ∷ h ∷ []) }
-{
-    ((((((a as u64 * 256 + b as u64) * 256 + c as u64) * 256 + d as u64) * 256 + e as u64) * 256
-        + f as u64)
-        * 256
-        + g as u64)
-        * 256
-        + h as u64
-}
+    ghost few = { Prim.search rules };
 
-// A number that lies wholly within s: the usual case, which compiles to one load.
-fn whole_u32(s: &[u8], at: usize) -> u32
-    requires { at + 4 ≤ length s.now }
-    ensures { result ≡ word 4 s.now at }
-{
-    let b = at + 1;
-    let c = b + 1;
-    let d = c + 1;
-    of4(s[at], s[b], s[c], s[d])
-}
-
-fn whole_u64(s: &[u8], at: usize) -> u64
-    requires { at + 8 ≤ length s.now }
-    ensures { result ≡ word 8 s.now at }
-{
-    let b = at + 1;
-    let c = b + 1;
-    let d = c + 1;
-    let e = d + 1;
-    let f = e + 1;
-    let g = f + 1;
-    let h = g + 1;
-    of8(s[at], s[b], s[c], s[d], s[e], s[f], s[g], s[h])
-}
-
-// The byte that is i past `at`, or 0 past the end. The sum is taken only where it is an index.
-fn byte_past(s: &[u8], at: usize, i: usize) -> u8
-    ensures { result ≡ get_or s.now (at + i) 0 }
-{
-    if s.len() <= at {
-        return 0;
+    fn bytes(self) -> [u8; 4] {
+        u32::to_be_bytes(self)
     }
-    if s.len() - at <= i {
-        return 0;
+
+    fn of_bytes(bytes: &[u8; 4]) -> u32 {
+        u32::from_be_bytes(*bytes)
     }
-    s[at + i]
 }
 
-// A number some of whose bytes may lie past the end.
-fn ragged_u32(s: &[u8], at: usize) -> u32
-    ensures { result ≡ word 4 s.now at }
-{
-    of4(
-        byte_past(s, at, 0),
-        byte_past(s, at, 1),
-        byte_past(s, at, 2),
-        byte_past(s, at, 3),
-    )
+impl Number<8> for u64 {
+    ghost value = { λ n. n };
+
+    ghost with_value = { λ n. n };
+
+    ghost few = { Prim.search rules };
+
+    fn bytes(self) -> [u8; 8] {
+        u64::to_be_bytes(self)
+    }
+
+    fn of_bytes(bytes: &[u8; 8]) -> u64 {
+        u64::from_be_bytes(*bytes)
+    }
 }
 
-fn ragged_u64(s: &[u8], at: usize) -> u64
-    ensures { result ≡ word 8 s.now at }
+// The N bytes of s from `at` on. Where s has them all, which is the usual case, this is one load.
+#[tactic(auto, using(crate::proofs::Stores::bytes_at_first))]
+fn bytes_at<const N: usize>(s: &[u8], at: usize) -> [u8; N]
+    ensures { result ≡ bytes_at N s.now at }
 {
-    of8(
-        byte_past(s, at, 0),
-        byte_past(s, at, 1),
-        byte_past(s, at, 2),
-        byte_past(s, at, 3),
-        byte_past(s, at, 4),
-        byte_past(s, at, 5),
-        byte_past(s, at, 6),
-        byte_past(s, at, 7),
-    )
+    if at < s.len() {
+        if let Some(all) = s[at..].first_chunk::<N>() {
+            return *all;
+        }
+    }
+    padded(s, at)
+}
+
+// The same where some may lie past the end: on its own, so that the usual case needs no room on the stack.
+#[tactic(auto, using(crate::proofs::Stores::bytes_at_padded))]
+fn padded<const N: usize>(s: &[u8], at: usize) -> [u8; N]
+    ensures { result ≡ bytes_at N s.now at }
+{
+    let mut bytes = [0u8; N];
+    copy_into(&mut bytes, part(s, at, N));
+    bytes
 }
 
 // The number whose bytes stand in s from `at` on.
-pub fn get_u32(s: &[u8], at: usize) -> u32
-    ensures { result ≡ word 4 s.now at }
+pub fn get<T: Number<N>, const N: usize>(s: &[u8], at: usize) -> T
+    ensures { result ≡ T.with_value (word N s.now at) }
 {
-    if 4 <= s.len() {
-        if at <= s.len() - 4 {
-            return whole_u32(s, at);
-        }
-    }
-    ragged_u32(s, at)
-}
-
-pub fn get_u64(s: &[u8], at: usize) -> u64
-    ensures { result ≡ word 8 s.now at }
-{
-    if 8 <= s.len() {
-        if at <= s.len() - 8 {
-            return whole_u64(s, at);
-        }
-    }
-    ragged_u64(s, at)
+    T::of_bytes(&bytes_at(s, at))
 }
 
 // Whether s begins with the bytes of p.
+#[tactic(auto, using(crate::proofs::Numbers::starts_with_by_pairs))]
 pub fn starts_with(s: &[u8], p: &[u8]) -> bool
     ensures { result ≡ starts_with s.now p.now }
 {
-    let mut i: usize = 0;
-    while i < p.len() {
-        if i >= s.len() {
-            return false;
-        }
-        if s[i] != p[i] {
-            return false;
-        }
-        i += 1;
-    }
-    true
+    s.starts_with(p)
 }
 
 // The n bytes of s from `at` on, as far as s goes.
@@ -175,57 +103,21 @@ pub fn part(s: &[u8], at: usize, n: usize) -> &[u8]
     if s.len() <= at {
         return &s[0..0];
     }
-    let end = at + smaller(n, s.len() - at);
+    let end = at + n.min(s.len() - at);
     &s[at..end]
 }
 
-fn smaller(a: usize, b: usize) -> usize
-    ensures { (result ≤ a) × (result ≤ b) × ((a ≤ result) ⊎ (b ≤ result)) }
-{
-    if a < b { a } else { b }
-}
-
-// Stores the bytes of src at the front of out, as far as out goes, one by one.
-fn copy_bytes(out: &mut [u8], src: &[u8])
-    ensures { out.new ≡ put_at out.old 0 src.now }
-{
-    let n = smaller(out.len(), src.len());
-    let mut i: usize = 0;
-    while i < n {
-        out[i] = src[i];
-        i += 1;
-    }
-}
-
-// How many bytes of a copy are held at a time.
-pub const HELD: usize = 16384;
-
-// Stores src in out, which is as long, by way of bytes that are nobody else's. Of two slices the compiler does not know that
-// they lie apart, and it makes a loop of their copy; of these two copies it makes one call of memmove, and holds nothing.
-fn carry(out: &mut [u8], src: &[u8])
-    requires { (length out.old ≡ length src.now) × (length src.now ≤ 16384) }
-    ensures { out.new ≡ src.now }
-{
-    let mut held = [0u8; HELD];
-    copy_bytes(&mut held, src);
-    copy_bytes(out, &held);
-}
-
 // Stores the bytes of src at the front of out, as far as out goes.
+#[tactic(auto, using(crate::proofs::Stores::put_at_front))]
 pub fn copy_into(out: &mut [u8], src: &[u8])
     ensures { out.new ≡ put_at out.old 0 src.now }
 {
-    let n = smaller(out.len(), src.len());
-    let mut done: usize = 0;
-    while HELD < n - done {
-        let next = done + HELD;
-        carry(&mut out[done..next], &src[done..next]);
-        done = next;
-    }
-    carry(&mut out[done..n], &src[done..n]);
+    let n = out.len().min(src.len());
+    out[..n].copy_from_slice(&src[..n]);
 }
 
 // Stores the bytes of src in out from `at` on, as far as out goes.
+#[tactic(auto, using(crate::proofs::Stores::put_at_lent, crate::proofs::Stores::put_at_out))]
 pub fn put(out: &mut [u8], at: usize, src: &[u8])
     ensures { out.new ≡ put_at out.old at src.now }
 {
@@ -235,35 +127,28 @@ pub fn put(out: &mut [u8], at: usize, src: &[u8])
 }
 
 // Stores the bytes of a number in out from `at` on.
-pub fn put_u32(out: &mut [u8], at: usize, v: u32)
-    ensures { out.new ≡ put_at out.old at (be 4 v) }
+pub fn put_number<T: Number<N>, const N: usize>(out: &mut [u8], at: usize, v: T)
+    ensures { out.new ≡ put_at out.old at (be N (T.value v)) }
 {
-    put(out, at, &u32_bytes(v));
+    put(out, at, &v.bytes());
 }
 
-pub fn put_u64(out: &mut [u8], at: usize, v: u64)
-    ensures { out.new ≡ put_at out.old at (be 8 v) }
-{
-    put(out, at, &u64_bytes(v));
-}
-
-// Makes every byte of out the same.
+// Makes every byte of out the same. The loop is one memset; the slice's own `fill` stores the last byte apart, which is slower.
 pub fn fill(out: &mut [u8], value: u8)
     ensures { out.new ≡ replicate (length out.old) value }
 {
-    let mut i: usize = 0;
-    while i < out.len() {
-        out[i] = value;
-        i += 1;
+    for byte in out {
+        *byte = value;
     }
 }
 
 // Stores n bytes of one value in out from `at` on, as far as out goes.
+#[tactic(auto, using(crate::proofs::Stores::put_at_filled, crate::proofs::Stores::put_at_out))]
 pub fn fill_at(out: &mut [u8], at: usize, n: usize, value: u8)
     ensures { out.new ≡ put_at out.old at (replicate n value) }
 {
     if at < out.len() {
-        let end = at + smaller(n, out.len() - at);
+        let end = at + n.min(out.len() - at);
         fill(&mut out[at..end], value);
     }
 }

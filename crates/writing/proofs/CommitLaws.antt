@@ -4,7 +4,6 @@ use mathlib.Core.Bool.{Bool, true, cond, and-eq-true_iff}
 use Prim.Native.Nat.{ℕ, ◌+◌, ◌^◌, ◌<◌}
 use native.Mathlib.Omega.{arith}
 use borrow.Author.Tests.{ltb-true, eq-eqb, ne_eqb, eqb-true}
-use Rattle.refusal.specs.declared.Verdict.TheVariants as Verdict
 use Rattle.refusal.proofs.Laws.{granted, refused}
 use Rattle.queue.specs.Element.{is_empty_element}
 use Rattle.queue.specs.State.{no_ends, sound}
@@ -12,6 +11,7 @@ use Rattle.queue.specs.declared.element.Element.{Element}
 use Rattle.queue.specs.declared.state.QueueFile.{QueueFile}
 use Rattle.queue.proofs.Sound.{sound_numbers_lem, sound_empty, by_count, first_lies, last_lies}
 use Rattle.writing.specs.Commit.{pointer_to, judge_numbers, judge_commit, Storable}
+use Rattle.std.specs.Prelude.{Ok}
 
 -- ---- a sound state without elements has no places
 
@@ -45,15 +45,15 @@ sound_storable q len e = by_count q.elem_cnt (empty_storable q len e) (some_stor
 
 -- ---- what is granted a commit
 
-pub commit_sound : (q : QueueFile) (len : ℕ) → judge_commit q len ≡ Verdict.Granted → sound q len ≡ true
+pub commit_sound : (q : QueueFile) (len : ℕ) → judge_commit q len ≡ Ok tt → sound q len ≡ true
 unfolding judge_commit
 commit_sound q len e = (granted _ _ _ _ refused e).0
 
-pub commit_storable : (q : QueueFile) (len : ℕ) → judge_commit q len ≡ Verdict.Granted → Storable q
+pub commit_storable : (q : QueueFile) (len : ℕ) → judge_commit q len ≡ Ok tt → Storable q
 commit_storable q len e = sound_storable q len (commit_sound q len e)
 
 -- the numbers that are granted so many commits and elements
-pub numbers_granted : (q : QueueFile) (commits elements : ℕ) → judge_numbers q commits elements ≡ Verdict.Granted
+pub numbers_granted : (q : QueueFile) (commits elements : ℕ) → judge_numbers q commits elements ≡ Ok tt
     → (q.format.generation + commits < 2 ^ 63) × (q.format.next_seq + elements < 2 ^ 63)
 unfolding judge_numbers
 numbers_granted q commits elements e =

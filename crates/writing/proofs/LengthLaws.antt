@@ -1,5 +1,6 @@
 -- How long a file gets: one step of the search for the least number of doublings, as the code counts it, and what is known of the
 -- length that it finds. Assumes nothing.
+use Rattle.refusal.proofs.Laws.{refused, same_ok, pass, stop, granted}
 use mathlib.Core.Path.{◌≡◌, refl, sym, ap, ◌∙◌}
 use mathlib.Core.Logic.{◌⊎◌, inl, inr}
 use mathlib.Core.Bool.{Bool, true, false, cond}
@@ -9,13 +10,11 @@ use native.Mathlib.Omega.{arith}
 use lib.Dec.{leb}
 use lib.Pow.{pow_pos, pow-add}
 use borrow.Author.Tests.{le-leb, lt-leb, leb-true, ltb-true, lt-ltb, le-ltb}
-use Rattle.refusal.specs.Table.{overflow}
+use Rattle.refusal.specs.declared.Refusal.TheVariants.{Overflow}
 use Rattle.refusal.specs.declared.Refusal.{Refusal}
-use Rattle.refusal.proofs.Laws.{pass, stop, granted}
-use Rattle.queue.specs.declared.state.Count.{Count}
-use Rattle.queue.specs.declared.state.Count.TheVariants.{Bytes, Refused}
 use Rattle.queue.proofs.Steps.{one_less}
 use Rattle.writing.specs.Length.{enough, doubled, least_from, grow_length}
+use Rattle.std.specs.Prelude.{Result, Ok, Err}
 
 -- ---- one more doubling
 
@@ -57,11 +56,11 @@ pub some_missing : (want room m : ℕ) → m ≡ want - room → (m ≡ 0 → �
 some_missing want room m e z = lt-leb want room (let y : (want - room ≡ 0) → ⊥ = λ x. z (e ∙ x) in omega (arith, y))
 
 -- a length from 2^63 on is refused, one below it is the answer
-pub too_long : (len k n : ℕ) → n ≡ len * 2 ^ k → 2 ^ 63 ≤ n → doubled len k ≡ Refused overflow
+pub too_long : (len k n : ℕ) → n ≡ len * 2 ^ k → 2 ^ 63 ≤ n → doubled len k ≡ Err Overflow
 too_long len k n e h = stop _ _ _ (le-ltb (len * 2 ^ k) (2 ^ 63) (rw (← e) h))
 
-pub short-enough : (len k n : ℕ) → n ≡ len * 2 ^ k → n < 2 ^ 63 → doubled len k ≡ Bytes n
-short-enough len k n e h = pass _ _ _ (lt-ltb (len * 2 ^ k) (2 ^ 63) (rw (← e) h)) ∙ ap Bytes (sym e)
+pub short-enough : (len k n : ℕ) → n ≡ len * 2 ^ k → n < 2 ^ 63 → doubled len k ≡ Ok n
+short-enough len k n e h = pass _ _ _ (lt-ltb (len * 2 ^ k) (2 ^ 63) (rw (← e) h)) ∙ ap Ok (sym e)
 
 -- ---- the search: what is left at step i, of n
 
@@ -81,12 +80,12 @@ pub least_there : (n i len rest want : ℕ) → i < n → enough len rest want i
 least_there n i len rest want h e =
     least_unroll n i len rest want h ∙ ap (λ (b : Bool). cond b (doubled len i) (least_from (n - (i + 1)) len rest want (i + 1))) e
 
-both_refused : (b : Bool) (x y : Count) → x ≡ Refused overflow → y ≡ Refused overflow → cond b x y ≡ Refused overflow
+both_refused : (b : Bool) (x y : Result ℕ Refusal) → x ≡ Err Overflow → y ≡ Err Overflow → cond b x y ≡ Err Overflow
 both_refused true x y e f = e
 both_refused false x y e f = f
 
 -- from a length of 2^63 on every answer is a refusal
-pub least_overflow : (left len rest want k : ℕ) → 2 ^ 63 ≤ len * 2 ^ k → least_from left len rest want k ≡ Refused overflow
+pub least_overflow : (left len rest want k : ℕ) → 2 ^ 63 ≤ len * 2 ^ k → least_from left len rest want k ≡ Err Overflow
 unfolding least_from
 least_overflow zero len rest want k h = refl
 least_overflow (suc left) len rest want k h =
@@ -119,31 +118,25 @@ record Found (len rest want n : ℕ) : Type 0 where
   small : n < 2 ^ 63
   room : want ≤ rest + len * (2 ^ times - 1)
 
-pub no_bytes_lem : {r : Refusal} {n : ℕ} → Refused r ≡ Bytes n → ⊥
-no_bytes_lem e = let z : ◌≡◌ {A = ℕ} 0 1 = cc in omega arith
-
-pub same_bytes : (m n : ℕ) → Bytes m ≡ Bytes n → m ≡ n
-same_bytes m n e = cc e
-
-found_here : (len rest want k n : ℕ) → enough len rest want k ≡ true → doubled len k ≡ Bytes n → Found len rest want n
+found_here : (len rest want k n : ℕ) → enough len rest want k ≡ true → doubled len k ≡ Ok n → Found len rest want n
 found_here len rest want k n e d =
-    let g = granted _ _ _ _ no_bytes_lem d in
-    let s : len * 2 ^ k ≡ n = same_bytes (len * 2 ^ k) n g.1 in
+    let g = granted _ _ _ _ refused d in
+    let s : len * 2 ^ k ≡ n = same_ok (len * 2 ^ k) n g.1 in
     record { times = k; long = sym s; small = rw (← s) (ltb-true (len * 2 ^ k) (2 ^ 63) g.0); room = leb-true _ _ e }
 
-found_step : (b : Bool) (len rest want k n : ℕ) (next : Count) → enough len rest want k ≡ b → (next ≡ Bytes n → Found len rest want n) →
-    cond b (doubled len k) next ≡ Bytes n → Found len rest want n
+found_step : (b : Bool) (len rest want k n : ℕ) (next : Result ℕ Refusal) → enough len rest want k ≡ b → (next ≡ Ok n → Found len rest want n) →
+    cond b (doubled len k) next ≡ Ok n → Found len rest want n
 found_step true len rest want k n next e f d = found_here len rest want k n e d
 found_step false len rest want k n next e f d = f d
 
-found : (left len rest want k n : ℕ) → least_from left len rest want k ≡ Bytes n → Found len rest want n
+found : (left len rest want k n : ℕ) → least_from left len rest want k ≡ Ok n → Found len rest want n
 unfolding least_from
-found zero len rest want k n e = absurd (no_bytes_lem e)
+found zero len rest want k n e = absurd (refused e)
 found (suc left) len rest want k n e =
     found_step (enough len rest want k) len rest want k n (least_from left len rest want (k + 1)) refl
     (found left len rest want (k + 1) n) e
 
-found_length : (len rest want n : ℕ) → grow_length len rest want ≡ Bytes n → Found len rest want n
+found_length : (len rest want n : ℕ) → grow_length len rest want ≡ Ok n → Found len rest want n
 unfolding grow_length
 found_length len rest want n e = found 63 len rest want 0 n e
 
@@ -160,25 +153,25 @@ same_or_twice zero len n e = inl (e ∙ mul-one len)
 same_or_twice (suc t) len n e = inr (rw e (twice len t))
 
 -- it does not pass 2^63 - 1, and is the length that was or at least twice that
-pub length_doubles : (len rest want n : ℕ) → grow_length len rest want ≡ Bytes n → (n < 2 ^ 63) × ((n ≡ len) ⊎ (2 * len ≤ n))
+pub length_doubles : (len rest want n : ℕ) → grow_length len rest want ≡ Ok n → (n < 2 ^ 63) × ((n ≡ len) ⊎ (2 * len ≤ n))
 length_doubles len rest want n e =
     let f = found_length len rest want n e in
     (f.small, same_or_twice f.times len n f.long)
 
 -- where there is room, it is the length that was
-pub length_same : (len rest want n : ℕ) → want ≤ rest → grow_length len rest want ≡ Bytes n → n ≡ len
+pub length_same : (len rest want n : ℕ) → want ≤ rest → grow_length len rest want ≡ Ok n → n ≡ len
 length_same len rest want n h e =
     let d : grow_length len rest want ≡ doubled len 0 =
     least_length len rest want 0 (omega arith) (λ j l. absurd (omega (arith, l))) (le-leb want (rest + len * (2 ^ 0 - 1)) (omega (arith, h))) in
-    let g = granted _ _ _ _ no_bytes_lem (sym d ∙ e) in
-    sym (same_bytes (len * 2 ^ 0) n g.1) ∙ mul-one len
+    let g = granted _ _ _ _ refused (sym d ∙ e) in
+    sym (same_ok (len * 2 ^ 0) n g.1) ∙ mul-one len
 
 twice-at_least : (times len rest want n : ℕ) → n ≡ len * 2 ^ times → want ≤ rest + len * (2 ^ times - 1) → rest < want → 2 * len ≤ n
 twice-at_least zero len rest want n e r h = absurd (let z : want ≤ rest = rw (← add-zero rest, ← mul-zero len) r in omega (arith, z, h))
 twice-at_least (suc t) len rest want n e r h = rw e (twice len t)
 
 -- where there is not, it is at least twice that
-pub length_grows : (len rest want n : ℕ) → grow_length len rest want ≡ Bytes n → rest < want → 2 * len ≤ n
+pub length_grows : (len rest want n : ℕ) → grow_length len rest want ≡ Ok n → rest < want → 2 * len ≤ n
 length_grows len rest want n e h =
     let f = found_length len rest want n e in
     twice-at_least f.times len rest want n f.long f.room h
@@ -187,7 +180,7 @@ added : (len n times : ℕ) → n ≡ len * 2 ^ times → len * (2 ^ times - 1) 
 added len n times e = mul-sub len (2 ^ times) 1 ∙ rw (e, mul-one len)
 
 -- what was left and what it adds are enough
-pub length_room : (len rest want n : ℕ) → grow_length len rest want ≡ Bytes n → want ≤ rest + (n - len)
+pub length_room : (len rest want n : ℕ) → grow_length len rest want ≡ Ok n → want ≤ rest + (n - len)
 length_room len rest want n e =
     let f = found_length len rest want n e in
     omega (arith, added len n f.times f.long, f.room)

@@ -1,5 +1,6 @@
 -- The walk that skips some elements, of more: that there are some, one step of it, as the code counts it, and where it comes out.
 -- Assumes nothing.
+use Rattle.refusal.proofs.Laws.{refused, same_ok}
 use mathlib.Core.Path.{◌≡◌, refl}
 use mathlib.Core.List.{List}
 use Prim.Native.Nat.{ℕ, zero, suc, ◌-◌, ◌<◌}
@@ -7,14 +8,12 @@ use native.Mathlib.Nat.{mod-lt}
 use native.Mathlib.Omega.{arith}
 use Rattle.refusal.specs.declared.Refusal.{Refusal}
 use Rattle.format.specs.declared.element.V2ElementHeader.{V2ElementHeader}
-use Rattle.format.specs.declared.element.ParsedHeader.{ParsedHeader}
-use Rattle.format.specs.declared.element.ParsedHeader.TheVariants as Parsed
-use Rattle.queue.specs.Answers.{on_header}
+use Rattle.refusal.specs.Answer.{on_ok}
 use Rattle.queue.specs.Element.{capacity, element_here, header_at}
 use Rattle.queue.specs.declared.element.Element.{Element}
 use Rattle.writing.specs.Growth.{behind}
 use Rattle.writing.specs.Removal.{skip_step, skip_from}
-use Rattle.writing.specs.declared.removal.Skipped.TheVariants as Skipped
+use Rattle.std.specs.Prelude.{Result, Ok, Err}
 
 -- ---- how many there are
 
@@ -33,24 +32,17 @@ skip_unroll img file (suc left) e n = let z : suc left - 1 ≡ left = omega arit
 
 -- ---- where it comes out
 
--- a walk that refuses reaches no element
-not_reached : {r : Refusal} {e : Element} → Skipped.Refused r ≡ Skipped.To e → ⊥
-not_reached h = let z : ◌≡◌ {A = ℕ} 0 1 = cc in omega arith
-
-reached : {a b : Element} → Skipped.To a ≡ Skipped.To b → a ≡ b
-reached h = cc
-
-place_step : (img : List ℕ) (file left : ℕ) (e to : Element) (d : ParsedHeader) →
-    ((g : V2ElementHeader) → skip_from img file left (element_here (behind file e) g) ≡ Skipped.To to → to.pos < capacity file) →
-    on_header Skipped.Refused d (λ g. skip_from img file left (element_here (behind file e) g)) ≡ Skipped.To to → to.pos < capacity file
-place_step img file left e to (Parsed.Refused r) rest h = absurd (not_reached h)
-place_step img file left e to (Parsed.Header g) rest h = rest g h
+place_step : (img : List ℕ) (file left : ℕ) (e to : Element) (d : Result V2ElementHeader Refusal) →
+    ((g : V2ElementHeader) → skip_from img file left (element_here (behind file e) g) ≡ Ok to → to.pos < capacity file) →
+    on_ok Err d (λ g. skip_from img file left (element_here (behind file e) g)) ≡ Ok to → to.pos < capacity file
+place_step img file left e to (Err r) rest h = absurd (refused h)
+place_step img file left e to (Ok g) rest h = rest g h
 
 -- at a place of the ring, since the place behind an element is a remainder
-pub skip_place : (img : List ℕ) (file n : ℕ) (e to : Element) → 8192 < file → e.pos < capacity file → skip_from img file n e ≡ Skipped.To to →
+pub skip_place : (img : List ℕ) (file n : ℕ) (e to : Element) → 8192 < file → e.pos < capacity file → skip_from img file n e ≡ Ok to →
     to.pos < capacity file
 unfolding skip_from
-skip_place img file zero e to s p h = rw (← reached h) p
+skip_place img file zero e to s p h = rw (← same_ok e to h) p
 skip_place img file (suc left) e to s p h =
     place_step img file left e to (header_at img file (behind file e))
     (λ g. skip_place img file left (element_here (behind file e) g) to s (mod-lt _ (omega (arith, s)))) h

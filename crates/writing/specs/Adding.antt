@@ -1,27 +1,26 @@
 -- Add: the element goes behind last, and the state is committed. Assumes nothing.
-use Rattle.std.specs.Prelude.{ℕ, ◌+◌, ◌-◌, ◌^◌, ◌≤◌, ◌<◌, ◌≡◌, cond, List, ◌++◌, length, ltb, eqb}
-use Rattle.refusal.specs.Table.{unsound, element_too_big, too_many_elements}
+use Rattle.std.specs.Prelude.{ℕ, ◌+◌, ◌-◌, ◌^◌, ◌≤◌, ◌<◌, ◌≡◌, cond, List, ◌++◌, length, ltb, eqb, Result, Err}
+use Rattle.refusal.specs.declared.Refusal.TheVariants.{Unsound, ElementTooBig, TooManyElements}
 use Rattle.refusal.specs.Demand.{demand}
 use Rattle.ring.specs.Ring.{ring_write}
-use Rattle.format.specs.Element.{element_span, encode_header, footer_bytes}
+use Rattle.format.specs.Element.{element_span, stored_header, footer_bytes}
 use Rattle.queue.specs.Element.{element, capacity, Lies}
 use Rattle.queue.specs.State.{sound}
 use Rattle.format.specs.declared.state.V2Format.{V2Format}
 use Rattle.queue.specs.declared.element.Element.{Element}
 use Rattle.queue.specs.declared.state.QueueFile.{QueueFile}
-use Rattle.queue.specs.declared.state.Count.{Count}
-use Rattle.queue.specs.declared.state.Count.TheVariants.{Refused}
-use Rattle.writing.specs.Work.{Work, done, kept, on_count, with_format, with_elements}
+use Rattle.writing.specs.Work.{Work, done, kept, with_format, with_elements}
 use Rattle.writing.specs.Commit.{pointer_to, committed}
 use Rattle.writing.specs.Growth.{end_of_last, judge_length, check_growth}
 use Rattle.writing.specs.Expansion.{grown}
-use Rattle.writing.specs.declared.answer.Changed.{Changed}
+use Rattle.refusal.specs.Answer.{on_ok, on_verdict}
+use Rattle.refusal.specs.declared.Refusal.{Refusal}
 
 -- ---- the element
 
 -- its bytes: header, payload, footer
 abbrev pub element_bytes : ℕ → ℕ → List ℕ → List ℕ
-element_bytes seq link payload = (encode_header seq link (length payload)).bytes ++ (payload ++ footer_bytes seq payload)
+element_bytes seq link payload = stored_header seq link (length payload) ++ (payload ++ footer_bytes seq payload)
 
 -- it stands behind last, or at place 0 in an empty queue
 abbrev pub next_place : QueueFile → ℕ
@@ -51,17 +50,18 @@ appended payload w = (
 -- ---- the call
 
 -- 28, 24, 25, then 30 for every commit that the call makes, 27 and 26
-unfoldable pub judge_add : QueueFile → ℕ → ℕ → Count
+unfoldable pub judge_add : QueueFile → ℕ → ℕ → Result ℕ Refusal
 judge_add q len payload =
-    demand (sound q len) (Refused unsound)
-    (demand (ltb payload (2 ^ 31)) (Refused element_too_big)
-    (demand (ltb (q.elem_cnt + 1) (2 ^ 31 - 1)) (Refused too_many_elements)
+    demand (sound q len) (Err Unsound)
+    (demand (ltb payload (2 ^ 31)) (Err ElementTooBig)
+    (demand (ltb (q.elem_cnt + 1) (2 ^ 31 - 1)) (Err TooManyElements)
     (judge_length q len (element_span payload) 1 1)))
 
-unfoldable pub add_of : QueueFile → List ℕ → List ℕ → Changed × List ℕ
+unfoldable pub add_of : QueueFile → List ℕ → List ℕ → Result QueueFile Refusal × List ℕ
 add_of q payload img =
-    on_count (kept img) (check_growth q img (judge_add q (length img) (length payload))) (λ n.
-    done (committed (appended payload (grown n (q, img)))))
+    on_ok (kept img) (judge_add q (length img) (length payload)) (λ n.
+    on_verdict (kept img) (check_growth q img n)
+    (done (committed (appended payload (grown n (q, img))))))
 
 -- ---- what the worker goes by
 

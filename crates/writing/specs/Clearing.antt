@@ -1,12 +1,12 @@
 -- Clear: an empty queue is committed, its ring is zeroed if overwriting, and the file is cut. Assumes nothing.
-use Rattle.std.specs.Prelude.{ℕ, ◌-◌, min, max, cond, List, length, replicate, ltb}
+use Rattle.std.specs.Prelude.{ℕ, ◌-◌, min, max, cond, List, length, replicate, ltb, Result}
 use Rattle.wire.specs.Wire.{put_at}
-use Rattle.queue.specs.Answers.{on_verdict}
+use Rattle.refusal.specs.Answer.{on_verdict}
 use Rattle.queue.specs.Element.{element}
 use Rattle.queue.specs.declared.state.QueueFile.{QueueFile}
 use Rattle.writing.specs.Work.{Work, done, kept, with_length, with_elements}
 use Rattle.writing.specs.Commit.{judge_commit, committed}
-use Rattle.writing.specs.declared.answer.Changed.{Changed}
+use Rattle.refusal.specs.declared.Refusal.{Refusal}
 
 -- the length that a cleared file is cut to: the set capacity, which is at least the ring's start
 abbrev pub cleared_length : QueueFile → ℕ
@@ -35,5 +35,5 @@ unfoldable pub cleared : Work → Work
 cleared w = cut (ring_zeroed (committed (emptied w.0, w.1)))
 
 -- 28, 30; a queue that is empty too
-unfoldable pub clear_of : QueueFile → List ℕ → Changed × List ℕ
+unfoldable pub clear_of : QueueFile → List ℕ → Result QueueFile Refusal × List ℕ
 clear_of q img = on_verdict (kept img) (judge_commit q (length img)) (done (cleared (q, img)))

@@ -1,19 +1,17 @@
 -- Commit: the state goes into the slot that is not active, which becomes the active one. Assumes nothing.
-use Rattle.std.specs.Prelude.{ℕ, ◌+◌, ◌-◌, ◌^◌, ◌<◌, cond, List, length, ltb, eqb}
-use Rattle.refusal.specs.Table.{unsound, exhausted}
+use Rattle.std.specs.Prelude.{ℕ, ◌+◌, ◌-◌, ◌^◌, ◌<◌, cond, List, length, ltb, eqb, Result, Ok, Err}
+use Rattle.refusal.specs.declared.Refusal.TheVariants.{Unsound, Exhausted}
 use Rattle.refusal.specs.Demand.{demand}
-use Rattle.refusal.specs.declared.Verdict as Answer
-use Rattle.refusal.specs.declared.Verdict.TheVariants as Verdict
 use Rattle.wire.specs.Wire.{put_at}
 use Rattle.header.specs.Slot.{other_slot, slot_offset, slot_data, slot_bytes}
 use Rattle.header.specs.declared.SlotData.{SlotData}
 use Rattle.format.specs.declared.state.V2Format.{V2Format}
-use Rattle.queue.specs.Answers.{on_verdict}
+use Rattle.refusal.specs.Answer.{on_verdict}
 use Rattle.queue.specs.State.{sound}
 use Rattle.queue.specs.declared.element.Element.{Element}
 use Rattle.queue.specs.declared.state.QueueFile.{QueueFile}
 use Rattle.writing.specs.Work.{Work, done, kept, with_format}
-use Rattle.writing.specs.declared.answer.Changed.{Changed}
+use Rattle.refusal.specs.declared.Refusal.{Refusal}
 
 -- ---- what is stored
 
@@ -51,17 +49,17 @@ committed w = (next_state w.0, slot_stored (next_state w.0) w.1)
 -- ---- the call
 
 -- 30 where the generation after so many commits, or the next sequence after so many elements, passes 2^63 - 1
-unfoldable pub judge_numbers : QueueFile → ℕ → ℕ → Answer.Verdict
+unfoldable pub judge_numbers : QueueFile → ℕ → ℕ → Result (Unit {0}) Refusal
 judge_numbers q commits elements =
-    demand (ltb (q.format.generation + commits) (2 ^ 63)) (Verdict.Refused exhausted)
-    (demand (ltb (q.format.next_seq + elements) (2 ^ 63)) (Verdict.Refused exhausted)
-    Verdict.Granted)
+    demand (ltb (q.format.generation + commits) (2 ^ 63)) (Err Exhausted)
+    (demand (ltb (q.format.next_seq + elements) (2 ^ 63)) (Err Exhausted)
+    (Ok tt))
 
 -- 28, then 30
-unfoldable pub judge_commit : QueueFile → ℕ → Answer.Verdict
-judge_commit q len = demand (sound q len) (Verdict.Refused unsound) (judge_numbers q 1 0)
+unfoldable pub judge_commit : QueueFile → ℕ → Result (Unit {0}) Refusal
+judge_commit q len = demand (sound q len) (Err Unsound) (judge_numbers q 1 0)
 
-unfoldable pub commit_of : QueueFile → List ℕ → Changed × List ℕ
+unfoldable pub commit_of : QueueFile → List ℕ → Result QueueFile Refusal × List ℕ
 commit_of q img = on_verdict (kept img) (judge_commit q (length img)) (done (committed (q, img)))
 
 -- ---- what the worker goes by

@@ -1,24 +1,21 @@
 -- Growth: the file gets longer, and where the elements wrap, those at the ring's start are laid behind those at its end. Each step stores
 -- what its comment says, in the order of `laid_straight`. Assumes nothing.
-use Rattle.std.specs.Prelude.{ℕ, zero, suc, ◌+◌, ◌-◌, ◌*◌, ◌^◌, ◌≤◌, ◌<◌, ◌≡◌, Bool, true, not, cond, ◌&&◌, List, length, replicate, ltb, eqb}
-use Rattle.refusal.specs.Table.{unsound}
+use Rattle.std.specs.Prelude.{ℕ, zero, suc, ◌+◌, ◌-◌, ◌*◌, ◌^◌, ◌≤◌, ◌<◌, ◌≡◌, Bool, true, not, cond, ◌&&◌, List, length, replicate, ltb, eqb, Result, Err}
+use Rattle.refusal.specs.declared.Refusal.TheVariants.{Unsound}
 use Rattle.refusal.specs.Demand.{demand}
 use Rattle.wire.specs.Wire.{put_at}
 use Rattle.ring.specs.Ring.{ring_add, ring_write, relocated}
-use Rattle.format.specs.Element.{element_span, encode_header}
+use Rattle.format.specs.Element.{element_span, stored_header}
 use Rattle.format.specs.declared.element.V2ElementHeader.{V2ElementHeader}
-use Rattle.format.specs.declared.element.ParsedHeader.{ParsedHeader}
-use Rattle.queue.specs.Answers.{on_header}
+use Rattle.refusal.specs.Answer.{on_ok, on_verdict}
 use Rattle.queue.specs.Element.{element, capacity, header_at}
 use Rattle.queue.specs.State.{sound}
 use Rattle.queue.specs.Opening.{with_ends}
 use Rattle.queue.specs.declared.state.QueueFile.{QueueFile}
-use Rattle.queue.specs.declared.state.Count.{Count}
-use Rattle.queue.specs.declared.state.Count.TheVariants.{Refused}
-use Rattle.writing.specs.Work.{Work, done, kept, on_count, with_length}
+use Rattle.writing.specs.Work.{Work, done, kept, with_length}
 use Rattle.writing.specs.Commit.{committed}
 use Rattle.writing.specs.Growth.{end_of_last, wrapped, judge_length, check_growth}
-use Rattle.writing.specs.declared.answer.Changed.{Changed}
+use Rattle.refusal.specs.declared.Refusal.{Refusal}
 
 -- ---- the file
 
@@ -40,13 +37,13 @@ names_moved end link = not (eqb link 0) && ltb link (8192 + end)
 unfoldable pub relinked_header : ℕ → ℕ → ℕ → List ℕ → ℕ → V2ElementHeader → List ℕ
 relinked_header file old end img p h =
     cond (names_moved end h.prev_pos)
-    (ring_write 8192 (capacity file) img p (encode_header h.seq (h.prev_pos + (old - 8192)) h.payload_len).bytes)
+    (ring_write 8192 (capacity file) img p (stored_header h.seq (h.prev_pos + (old - 8192)) h.payload_len))
     img
 
 -- a header at a time, in the new ring; after the walk each is valid, and one that is not would end it
-abbrev pub relink_step : ℕ → ℕ → ℕ → List ℕ → ℕ → ParsedHeader → (List ℕ → ℕ → List ℕ) → List ℕ
+abbrev pub relink_step : ℕ → ℕ → ℕ → List ℕ → ℕ → Result V2ElementHeader Refusal → (List ℕ → ℕ → List ℕ) → List ℕ
 relink_step file old end img p d rest =
-    on_header (λ _. img) d (λ h.
+    on_ok (λ _. img) d (λ h.
     rest (relinked_header file old end img p h) (ring_add (capacity file) p (element_span h.payload_len)))
 
 unfoldable pub relink_from : ℕ → ℕ → ℕ → ℕ → List ℕ → ℕ → List ℕ
@@ -90,13 +87,14 @@ grown n w = cond (ltb w.0.file_len n) (expanded n w) w
 -- ---- growth alone, for a span
 
 -- 28, then 30 for its own commit, 27 and 26
-unfoldable pub judge_expansion : QueueFile → ℕ → ℕ → Count
-judge_expansion q len span = demand (sound q len) (Refused unsound) (judge_length q len span 0 0)
+unfoldable pub judge_expansion : QueueFile → ℕ → ℕ → Result ℕ Refusal
+judge_expansion q len span = demand (sound q len) (Err Unsound) (judge_length q len span 0 0)
 
-unfoldable pub expand_of : QueueFile → ℕ → List ℕ → Changed × List ℕ
+unfoldable pub expand_of : QueueFile → ℕ → List ℕ → Result QueueFile Refusal × List ℕ
 expand_of q span img =
-    on_count (kept img) (check_growth q img (judge_expansion q (length img) span)) (λ n.
-    done (grown n (q, img)))
+    on_ok (kept img) (judge_expansion q (length img) span) (λ n.
+    on_verdict (kept img) (check_growth q img n)
+    (done (grown n (q, img))))
 
 -- ---- what the workers go by
 

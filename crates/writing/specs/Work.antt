@@ -1,15 +1,10 @@
 -- What a call that changes a queue works on, and what it answers: a step takes state and image and gives both as they are after it, and
 -- an operation is its steps one after the other. Assumes nothing.
-use Rattle.std.specs.Prelude.{ℕ, List}
-use Rattle.refusal.specs.Table.{none}
+use Rattle.std.specs.Prelude.{ℕ, List, Result, Ok, Err}
 use Rattle.refusal.specs.declared.Refusal.{Refusal}
 use Rattle.format.specs.declared.state.V2Format.{V2Format}
 use Rattle.queue.specs.declared.element.Element.{Element}
 use Rattle.queue.specs.declared.state.QueueFile.{QueueFile}
-use Rattle.queue.specs.declared.state.Count as Number
-use Rattle.queue.specs.declared.state.Count.TheVariants as Count
-use Rattle.writing.specs.declared.answer.Changed.{Changed}
-use Rattle.writing.specs.declared.answer.Changed.TheVariants.{Queue, Refused}
 
 -- the state and the image
 abbrev pub Work : Type 0
@@ -18,22 +13,12 @@ Work = QueueFile × List ℕ
 -- ---- answers
 
 -- once all steps are done
-abbrev pub done : Work → Changed × List ℕ
-done w = (Queue w.0, w.1)
+abbrev pub done : Work → Result QueueFile Refusal × List ℕ
+done w = (Ok w.0, w.1)
 
 -- a refusal leaves the image as it was
-abbrev pub kept : List ℕ → Refusal → Changed × List ℕ
-kept img r = (Refused r, img)
-
--- how an answer goes on from a number
-abbrev pub on_count : {A : Type 0} → (Refusal → A) → Number.Count → (ℕ → A) → A
-on_count refuse (Count.Bytes n) next = next n
-on_count refuse (Count.Refused r) next = refuse r
-
--- the number and two values of each answer
-abbrev pub changed_refusal : Changed → Refusal
-changed_refusal (Queue q) = none
-changed_refusal (Refused r) = r
+abbrev pub kept : List ℕ → Refusal → Result QueueFile Refusal × List ℕ
+kept img r = (Err r, img)
 
 -- ---- the state with something in it changed
 

@@ -1,37 +1,35 @@
 // Add: the element goes into the ring behind last, header, payload and footer, each from where it is, and then the state is committed.
 ghost use Rattle.std.specs.Prelude.{◌≡◌, ◌-◌, ◌^◌, ◌≤◌, ◌<◌, length};
 ghost use Rattle.ring.specs.Ring.{ring_write};
-ghost use Rattle.writing.specs.Adding.{element_bytes, next_place, next_element, with_last, appended, judge_add, add_of, Extends};
+ghost use Rattle.writing.specs.Adding.{element_bytes, next_element, with_last, appended, judge_add, add_of, Extends};
 
-use crate::answer::Changed;
 use crate::committing::{pointer_to, sync_header};
 use crate::expansion::grow_to;
 use crate::growth::{check_growth, end_of_last, judge_length};
 use format::{V2_ELEM_HDR_LEN, V2_ELEM_OVERHEAD, V2Format};
-use queue::{Count, Element, QueueFile};
+use queue::{Element, QueueFile, SoundQueue};
 use refusal::Refusal;
 
 // The file length after an add of that payload to an image of so many bytes, as far as numbers tell.
-pub fn judge_add(q: QueueFile, image_len: u64, payload_len: u64) -> Count
+#[tactic(auto, using(queue::proofs::SoundQueueLaws::asked), unfolding(crate::specs::Adding::judge_add))]
+pub fn judge_add(q: QueueFile, image_len: u64, payload_len: u64) -> Result<u64, Refusal>
     ensures { result ≡ judge_add q image_len payload_len }
 {
-    let Count::Bytes(remaining_bytes) = q.remaining_bytes(image_len) else {
-        return Count::Refused(Refusal::UNSOUND);
-    };
+    judge_element(q.sound(image_len)?, payload_len)
+}
+
+// The same of a state that is sound.
+#[tactic(auto, using(refusal::proofs::Laws::decide), unfolding(crate::specs::Adding::judge_add))]
+fn judge_element(q: SoundQueue, payload_len: u64) -> Result<u64, Refusal>
+    ensures { result ≡ judge_add q.state q.image_len payload_len }
+{
     if payload_len >= 0x8000_0000 {
-        return Count::Refused(Refusal::ELEMENT_TOO_BIG);
+        return Err(Refusal::ElementTooBig);
     }
-    if q.elem_cnt + 1 >= 0x7fff_ffff {
-        return Count::Refused(Refusal::TOO_MANY_ELEMENTS);
+    if q.state.elem_cnt + 1 >= 0x7fff_ffff {
+        return Err(Refusal::TooManyElements);
     }
-    judge_length(
-        q,
-        image_len,
-        remaining_bytes,
-        payload_len + V2_ELEM_OVERHEAD,
-        1,
-        1,
-    )
+    judge_length(q, payload_len + V2_ELEM_OVERHEAD, 1, 1)
 }
 
 // Stores an element at a place.
@@ -47,35 +45,25 @@ fn write_element(
     ensures { image.new ≡ ring_write 8192 (file_len - 8192) image.old pos (element_bytes seq prev_phys payload.now) }
 {
     let len = payload.len() as u64;
-    let header = format::encode_v2_element_header(seq, prev_phys, len);
+    // The definition says zeros where the encoder refuses; it does not, of so short a payload.
+    let header = format::encode_v2_element_header(seq, prev_phys, len).unwrap_or([0; 28]);
     let footer = format::encode_v2_footer(seq, payload);
     let payload_start = pos + V2_ELEM_HDR_LEN;
-    ring::write_at(image, file_len, pos, &header.bytes);
-    ring::write_at(image, file_len, payload_start, payload);
-    ring::write_at(image, file_len, payload_start + len, &footer);
+    ring::write_at(image, file_len, pos, &header).unwrap();
+    ring::write_at(image, file_len, payload_start, payload).unwrap();
+    ring::write_at(image, file_len, payload_start + len, &footer).unwrap();
 }
 
-// The place behind last, or 0 in an empty queue.
-fn next_place(q: QueueFile) -> u64
-    requires { Extends q.file_len q }
-    ensures { result ≡ next_place q }
-{
-    if q.elem_cnt == 0 {
-        return 0;
-    }
-    end_of_last(q)
-}
-
-// The element that comes next, with a payload of that length.
+// The element that comes next, with a payload of that length: it stands behind last, or at place 0 in an empty queue.
 fn next_element(q: QueueFile, payload_len: u64) -> Element
     requires { Extends q.file_len q }
     ensures { result ≡ next_element q payload_len }
 {
-    let format = q.format;
+    let pos = if q.elem_cnt == 0 { 0 } else { end_of_last(q) };
     Element {
-        pos: next_place(q),
+        pos,
         len: payload_len,
-        seq: format.next_seq,
+        seq: q.format.next_seq,
     }
 }
 
@@ -84,15 +72,14 @@ fn with_last(q: QueueFile, elem: Element) -> QueueFile
     requires { Extends q.file_len q }
     ensures { result ≡ with_last q elem }
 {
-    let format = q.format;
     let first = if q.elem_cnt == 0 { elem } else { q.first };
     QueueFile {
         format: V2Format {
-            next_seq: format.next_seq + 1,
-            ..format
+            next_seq: q.format.next_seq + 1,
+            ..q.format
         },
         elem_cnt: q.elem_cnt + 1,
-        first: first,
+        first,
         last: elem,
         ..q
     }
@@ -111,15 +98,14 @@ fn append(q: QueueFile, image: &mut [u8], payload: &[u8]) -> QueueFile
 }
 
 // Adds an element. The file grows where there is too little room.
-pub fn add(q: QueueFile, image: &mut [u8], payload: &[u8]) -> Changed
+#[tactic(auto, using(queue::proofs::SoundQueueLaws::asked), unfolding(crate::specs::Adding::judge_add, crate::specs::Adding::add_of))]
+pub fn add(q: QueueFile, image: &mut [u8], payload: &[u8]) -> Result<QueueFile, Refusal>
     ensures { (result, image.new) ≡ add_of q payload.now image.old }
 {
-    let planned = judge_add(q, image.len() as u64, payload.len() as u64);
-    let checked = check_growth(q, image, planned);
-    let Count::Bytes(new_len) = checked else {
-        return Changed::Refused(checked.refusal());
-    };
+    let q = q.sound(image.len() as u64)?;
+    let new_len = judge_element(q, payload.len() as u64)?;
+    check_growth(q, image, new_len)?;
     let longer = grow_to(q, image, new_len);
     let added = append(longer, image, payload);
-    Changed::Queue(sync_header(added, image))
+    Ok(sync_header(added, image))
 }

@@ -2,37 +2,27 @@
 ghost use Rattle.std.specs.Prelude.{◌≡◌};
 ghost use Rattle.writing.specs.Clearing.{cleared_length, ring_zeroed, cut_state, clear_of};
 
-use crate::answer::Changed;
 use crate::committing::{judge_commit, sync_header};
 use header::V2_DATA_START;
 use queue::{Element, QueueFile};
-use refusal::Verdict;
+use refusal::Refusal;
 
 // The length that a cleared file is cut to.
 fn cleared_length(q: QueueFile) -> u64
     ensures { result ≡ cleared_length q }
 {
-    let settings = q.settings;
-    if settings.capacity > V2_DATA_START {
-        return settings.capacity;
-    }
-    V2_DATA_START
+    q.settings.capacity.max(V2_DATA_START)
 }
 
 // Zeroes what is left of the ring once the file is cut.
+#[tactic(auto, unfolding(crate::specs::Clearing::ring_zeroed))]
 fn zero_ring(q: QueueFile, image: &mut [u8])
     ensures { (q, image.new) ≡ ring_zeroed (q, image.old) }
 {
-    let settings = q.settings;
-    if !settings.overwrite_on_remove {
+    if !q.settings.overwrite_on_remove {
         return;
     }
-    let cleared = cleared_length(q);
-    let kept = if q.file_len < cleared {
-        q.file_len
-    } else {
-        cleared
-    };
+    let kept = q.file_len.min(cleared_length(q));
     if kept > V2_DATA_START {
         wire::fill_at(
             image,
@@ -59,12 +49,11 @@ fn cut(q: QueueFile) -> QueueFile
 }
 
 // Removes all elements. The commit has the file's old length.
-pub fn clear(q: QueueFile, image: &mut [u8]) -> Changed
+#[tactic(auto, unfolding(crate::specs::Clearing::clear_of, crate::specs::Clearing::cleared))]
+pub fn clear(q: QueueFile, image: &mut [u8]) -> Result<QueueFile, Refusal>
     ensures { (result, image.new) ≡ clear_of q image.old }
 {
-    if let Verdict::Refused(refusal) = judge_commit(q, image.len() as u64) {
-        return Changed::Refused(refusal);
-    }
+    judge_commit(q, image.len() as u64)?;
     let empty = QueueFile {
         elem_cnt: 0,
         first: Element::EMPTY,
@@ -73,5 +62,5 @@ pub fn clear(q: QueueFile, image: &mut [u8]) -> Changed
     };
     let committed = sync_header(empty, image);
     zero_ring(committed, image);
-    Changed::Queue(cut(committed))
+    Ok(cut(committed))
 }

@@ -2,11 +2,10 @@
 ghost use Rattle.std.specs.Prelude.{◌≡◌, ◌^◌, ◌≤◌, ◌<◌};
 ghost use Rattle.writing.specs.Commit.{pointer_to, slot_of, slot_stored, committed, judge_numbers, judge_commit, commit_of, Storable};
 
-use crate::answer::Changed;
 use format::V2Format;
 use header::{SlotData, V2_DATA_START};
-use queue::{Element, QueueFile};
-use refusal::{Refusal, Verdict};
+use queue::{Element, QueueFile, SoundQueue};
+use refusal::Refusal;
 
 // A pointer to an element: its offset in the file, or 0 where there are no elements.
 pub(crate) fn pointer_to(elem_cnt: u32, elem: Element) -> u64
@@ -24,14 +23,13 @@ fn slot_data(q: QueueFile) -> SlotData
     requires { (q.first.pos < 2 ^ 63) × (q.last.pos < 2 ^ 63) }
     ensures { result ≡ slot_of q }
 {
-    let format = q.format;
     SlotData {
         file_length: q.file_len,
         element_count: q.elem_cnt,
         first_position: pointer_to(q.elem_cnt, q.first),
         last_position: pointer_to(q.elem_cnt, q.last),
-        generation: format.generation,
-        next_sequence_number: format.next_seq,
+        generation: q.format.generation,
+        next_sequence_number: q.format.next_seq,
     }
 }
 
@@ -40,24 +38,21 @@ pub(crate) fn store_slot(q: QueueFile, image: &mut [u8])
     requires { (q.first.pos < 2 ^ 63) × (q.last.pos < 2 ^ 63) }
     ensures { image.new ≡ slot_stored q image.old }
 {
-    let format = q.format;
-    let active_slot = format.active_slot;
     let bytes = header::build_slot_bytes(slot_data(q));
-    wire::put(image, active_slot.offset() as usize, &bytes);
+    wire::put(image, q.format.active_slot.offset() as usize, &bytes);
 }
 
 // The state with the other slot active and one generation more, stored there.
+#[tactic(auto, unfolding(crate::specs::Commit::committed))]
 pub(crate) fn sync_header(q: QueueFile, image: &mut [u8]) -> QueueFile
     requires { Storable q }
     ensures { (result, image.new) ≡ committed (q, image.old) }
 {
-    let format = q.format;
-    let active_slot = format.active_slot;
     let next = QueueFile {
         format: V2Format {
-            active_slot: active_slot.toggle(),
-            generation: format.generation + 1,
-            next_seq: format.next_seq,
+            active_slot: q.format.active_slot.toggle(),
+            generation: q.format.generation + 1,
+            ..q.format
         },
         ..q
     };
@@ -66,36 +61,34 @@ pub(crate) fn sync_header(q: QueueFile, image: &mut [u8]) -> QueueFile
 }
 
 // Whether generation and next sequence stay below their limit, after so many commits and elements more.
-pub(crate) fn judge_numbers(q: QueueFile, commits: u64, elements: u64) -> Verdict
-    requires { (q.format.generation < 2 ^ 63) × (q.format.next_seq < 2 ^ 63) × (commits ≤ 2) × (elements ≤ 1) }
-    ensures { result ≡ judge_numbers q commits elements }
+#[tactic(auto, using(refusal::proofs::Laws::decide), unfolding(crate::specs::Commit::judge_numbers))]
+pub(crate) fn judge_numbers(q: SoundQueue, commits: u64, elements: u64) -> Result<(), Refusal>
+    requires { (commits ≤ 2) × (elements ≤ 1) }
+    ensures { result ≡ judge_numbers q.state commits elements }
 {
-    let format = q.format;
+    let format = q.state.format;
     if format.generation + commits >= 0x8000_0000_0000_0000 {
-        return Verdict::Refused(Refusal::EXHAUSTED);
+        return Err(Refusal::Exhausted);
     }
     if format.next_seq + elements >= 0x8000_0000_0000_0000 {
-        return Verdict::Refused(Refusal::EXHAUSTED);
+        return Err(Refusal::Exhausted);
     }
-    Verdict::Granted
+    Ok(())
 }
 
 // Whether a state can be committed to an image of so many bytes.
-pub(crate) fn judge_commit(q: QueueFile, image_len: u64) -> Verdict
+#[tactic(auto, using(queue::proofs::SoundQueueLaws::asked), unfolding(crate::specs::Commit::judge_commit))]
+pub(crate) fn judge_commit(q: QueueFile, image_len: u64) -> Result<(), Refusal>
     ensures { result ≡ judge_commit q image_len }
 {
-    if !q.is_sound(image_len) {
-        return Verdict::Refused(Refusal::UNSOUND);
-    }
-    judge_numbers(q, 1, 0)
+    judge_numbers(q.sound(image_len)?, 1, 0)
 }
 
 // Commits the state, where it is sound and its generation can rise.
-pub fn commit(q: QueueFile, image: &mut [u8]) -> Changed
+#[tactic(auto, unfolding(crate::specs::Commit::commit_of))]
+pub fn commit(q: QueueFile, image: &mut [u8]) -> Result<QueueFile, Refusal>
     ensures { (result, image.new) ≡ commit_of q image.old }
 {
-    match judge_commit(q, image.len() as u64) {
-        Verdict::Refused(refusal) => Changed::Refused(refusal),
-        Verdict::Granted => Changed::Queue(sync_header(q, image)),
-    }
+    judge_commit(q, image.len() as u64)?;
+    Ok(sync_header(q, image))
 }

@@ -1,14 +1,10 @@
--- `crc::by_words` meets its contract. The loop's invariant: the bytes that are left, put into the words that wait now, make what all the bytes make
--- of the state, and at least 40 are left. The measure is what is left of the length. Assumes nothing.
-use mathlib.Core.Path.{◌≡◌}
-use Prim.Native.Nat.{◌+◌, ◌≤◌, ◌-◌}
-use lib.ListN.{length, drop}
+-- `crc::by_words` meets its contract. The loop's invariant: 40 bytes or more make of the words that wait what they make of the register after the
+-- words so far. Assumes nothing.
+use Prim.Native.Nat.{◌*◌}
+use lib.ListN.{take}
 use Rattle.crc.specs.Crc.{bytes_in}
-use Rattle.crc.specs.Words.{number}
+use Rattle.crc.specs.Words.{number, Same}
 use Rattle.crc.proofs.by_words.Given as goal
 
-abbrev pub invariant-loop-i : goal.invariant-loop-i
-invariant-loop-i l = (l.i + 40 ≤ length l.part) × (bytes_in (number l.p) (drop l.i l.part) ≡ bytes_in l.state l.part)
-
-abbrev pub decreases-loop-i : goal.decreases-loop-i
-decreases-loop-i l = length l.part - l.i
+abbrev pub invariant-loop-w : goal.invariant-loop-w
+invariant-loop-w l = Same 40 (number l.p) (bytes_in l.state (take (l.w-index * 8) l.part))

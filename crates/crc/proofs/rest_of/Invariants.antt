@@ -1,12 +1,9 @@
--- `crc::rest_of` meets its contract. The loop's invariant: w is the number of the bytes from k on. The measure is k. Assumes nothing.
+-- `crc::rest_of` meets its contract. The loop's invariant: w is the number of the bytes behind those that are left. Assumes nothing.
 use mathlib.Core.Path.{◌≡◌}
-use Prim.Native.Nat.{◌≤◌}
-use lib.ListN.{length, drop}
+use mathlib.Core.List.{List, ◌++◌}
+use Prim.Native.Nat.{ℕ}
 use Rattle.crc.specs.Words.{le}
 use Rattle.crc.proofs.rest_of.Given as goal
 
-abbrev pub invariant-loop-k : goal.invariant-loop-k
-invariant-loop-k l = (l.i ≤ l.k) × (l.k ≤ length l.part) × (l.w ≡ le (drop l.k l.part))
-
-abbrev pub decreases-loop-k : goal.decreases-loop-k
-decreases-loop-k l = l.k
+abbrev pub invariant-loop-b : goal.invariant-loop-b
+invariant-loop-b l = (ys : List ℕ) × (l.rest ≡ l.b-iterator.iter.rest.now ++ ys) × (l.w ≡ le ys)

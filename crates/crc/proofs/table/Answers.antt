@@ -1,4 +1,4 @@
--- `crc::table` meets its contract: the constant is the list that the rule is proved of, which antt computes to compare them.
+-- `crc::table` meets its contract: the static is the list that the rule is proved of, which antt computes to compare them.
 -- Assumes nothing.
 use Rattle.crc.specs.Crc.{shift, shifts}
 use Rattle.crc.proofs.Rows.{tab, filled}

@@ -11,10 +11,10 @@ returns c =
     let fields =
     fields_laid d
     c.put.ensures
-    c.put_u64.ensures
-    c.put_u32.ensures
-    c.put_u64-2.ensures
-    c.put_u64-3.ensures
-    c.put_u64-4.ensures
-    c.put_u64-5.ensures in
-    sealed crc_of (slot_fields d) fields c.crc32-sum.ensures c.put_u32-2.ensures
+    c.put_number.ensures
+    c.put_number-2.ensures
+    c.put_number-3.ensures
+    c.put_number-4.ensures
+    c.put_number-5.ensures
+    c.put_number-6.ensures in
+    sealed crc_of (slot_fields d) fields c.crc32-sum.ensures c.put_number-7.ensures

@@ -8,6 +8,6 @@ returns c =
     let a = c.args in
     footer_laid a.seq a.payload.now
     c.put.ensures
-    c.put_u64.ensures
+    c.put_number.ensures
     c.crc32_joined-sum.ensures
-    c.put_u32.ensures
+    c.put_number-2.ensures

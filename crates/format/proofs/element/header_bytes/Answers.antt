@@ -8,8 +8,8 @@ returns c =
     let a = c.args in
     header_laid a.seq a.prev_phys a.len
     c.put.ensures
-    c.put_u64.ensures
-    c.put_u64-2.ensures
-    c.put_u32.ensures
+    c.put_number.ensures
+    c.put_number-2.ensures
+    c.put_number-3.ensures
     c.crc32-sum.ensures
-    c.put_u32-2.ensures
+    c.put_number-4.ensures

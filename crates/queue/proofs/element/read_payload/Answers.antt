@@ -5,11 +5,14 @@ use Prim.Native.Nat.{ℕ, ◌+◌, ◌-◌}
 use lib.ListN.{length, take}
 use lib.Seq.{length-take-le}
 use Rattle.ring.specs.Ring.{ring_read}
-use Rattle.ring.proofs.Calls.{on_ring}
+use Rattle.ring.proofs.Calls.{on_ring, ring_ok}
 use Rattle.ring.proofs.Reading.{length_read}
 use Rattle.queue.specs.Element.{payload_at}
 use Rattle.queue.proofs.ElementLaws.{put_front}
 use Rattle.queue.proofs.element.read_payload.Goals as goal
+
+pub unwrap-requires : goal.unwrap-requires
+unwrap-requires c = ring_ok _ _ _ _ c.read_at.ensures.value c.requires.lies.some c.requires.lies.inside
 
 pub returns : goal.returns
 unfolding payload_at

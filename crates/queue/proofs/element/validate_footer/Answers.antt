@@ -2,10 +2,13 @@
 use mathlib.Core.Path.{◌∙◌}
 use Prim.Native.Nat.{◌+◌}
 use native.Mathlib.Omega.{arith}
-use Rattle.ring.proofs.Calls.{on_ring}
+use Rattle.ring.proofs.Calls.{on_ring, ring_ok}
 use Rattle.queue.specs.Element.{payload_at, footer_verdict}
 use Rattle.queue.proofs.ElementLaws.{parts_joined}
 use Rattle.queue.proofs.element.validate_footer.Goals as goal
+
+pub unwrap-requires : goal.unwrap-requires
+unwrap-requires c = ring_ok _ _ _ _ c.read_at.ensures.value c.requires.some c.requires.inside
 
 pub returns : goal.returns
 unfolding footer_verdict payload_at

@@ -1,34 +1,36 @@
 -- `queue::strict::open_strict` meets its contract: a plain opening, then soundness, then the trail, in the definition's order. Assumes
 -- nothing.
 use mathlib.Core.Path.{sym, ◌∙◌}
+use Rattle.std.proofs.lemmas.Result.{err_from_is_err_and}
 use Rattle.refusal.specs.Demand.{demand}
+use Rattle.queue.proofs.SoundQueueLaws.{judged}
 use Rattle.queue.specs.Strict.{open_strictly}
 use Rattle.queue.proofs.strict.open_strict.Goals as goal
 
-pub returns-in_default : goal.returns-in_default
-unfolding open_strictly
-returns-in_default c =
-    rw (sym c.open-opened.ensures, c.in_default.is)
+pub check_trail-requires : goal.check_trail-requires
+check_trail-requires c = (judged c.sound.ensures c.in_ok-sound.was).image_len
 
-pub returns-then-not-is_sound : goal.returns-then-not-is_sound
+pub returns-in_err-check_trail : goal.returns-in_err-check_trail
 unfolding open_strictly demand
-returns-then-not-is_sound c =
-    rw (sym c.open-opened.ensures ∙ c.in-Queue.is, sym c.is_sound.ensures ∙ c.if-not-is_sound.true)
-
-pub returns-in-Granted : goal.returns-in-Granted
-unfolding open_strictly demand
-returns-in-Granted c =
+returns-in_err-check_trail c =
+    let j = judged c.sound.ensures c.in_ok-sound.was in
+    let t = rw j.state at c.check_trail.ensures in
+    let p = err_from_is_err_and c.from_residual-in_err-check_trail.result c.from_residual-in_err-check_trail.ensures.1 in
     rw (
-      sym c.open-opened.ensures ∙ c.in-Queue.is,
-      sym c.is_sound.ensures ∙ c.if-not-is_sound.false,
-      sym c.check_trail.ensures ∙ c.in-Granted.is,
+      p.1,
+      p.2,
+      sym c.«open».ensures ∙ c.in_ok-q.was,
+      j.sound,
+      sym t ∙ c.in_err-check_trail.was,
     )
 
-pub returns-in-Refused : goal.returns-in-Refused
+pub returns : goal.returns
 unfolding open_strictly demand
-returns-in-Refused c =
+returns c =
+    let j = judged c.sound.ensures c.in_ok-sound.was in
+    let t = rw j.state at c.check_trail.ensures in
     rw (
-      sym c.open-opened.ensures ∙ c.in-Queue.is,
-      sym c.is_sound.ensures ∙ c.if-not-is_sound.false,
-      sym c.check_trail.ensures ∙ c.in-Refused.is,
+      sym c.«open».ensures ∙ c.in_ok-q.was,
+      j.sound,
+      sym t ∙ c.in_ok-check_trail.was,
     )

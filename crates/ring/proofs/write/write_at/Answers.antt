@@ -1,35 +1,16 @@
--- `ring::write::write_at` meets its contract: where there is a ring, by `write_ring`, at the place within one turn. Assumes nothing.
-use mathlib.Core.Path.{refl, ◌∙◌, sym}
-use borrow.Author.Rules.{rules}
-use Rattle.refusal.proofs.Laws.{decide, met}
-use Rattle.ring.proofs.Places.{ring_known}
-use Rattle.ring.proofs.Writing.{write_mod}
+-- `ring::write::write_at` meets its contract: what `write_ring` does to the ring it does to the image. Assumes nothing.
+use mathlib.Core.Path.{◌≡◌}
+use Prim.Native.Nat.{ℕ, ◌-◌}
+use native.Mathlib.Omega.{arith}
+use lib.ListN.{length}
+use borrow.Rule.Slice.PartMut.{mid_of, mid_len}
+use Rattle.ring.proofs.Lent.{write_lent}
 use Rattle.ring.proofs.write.write_at.Goals as goal
 
-pub returns-then-not-has_ring : goal.returns-then-not-has_ring
-returns-then-not-has_ring c = record {
-  value = search decide;
-  image_after = refl;
-}
-
-pub overflow_sub-capacity : goal.overflow_sub-capacity
-overflow_sub-capacity c =
-    let l = ring_known _ _ _ _ c.has_ring.ensures c.if-not-has_ring.false in
-    search rules
-
-pub reduced-pos-requires : goal.reduced-pos-requires
-reduced-pos-requires c =
-    let l = ring_known _ _ _ _ c.has_ring.ensures c.if-not-has_ring.false in
-    search rules
-
-pub write_ring-requires : goal.write_ring-requires
-write_ring-requires c =
-    let l = ring_known _ _ _ _ c.has_ring.ensures c.if-not-has_ring.false in
-    search rules
-
-pub returns : goal.returns
-returns c =
-    record {
-      value = met _ _ _ (sym c.has_ring.ensures ∙ c.if-not-has_ring.false) refl;
-      image_after = c.write_ring.ensures ∙ rw c.reduced-pos.ensures.0 (write_mod _ _ _ _ _);
-    }
+pub returns-clause-image_after : goal.returns-clause-image_after
+returns-clause-image_after c =
+    let a = c.args in
+    let size : ℕ = a.file_len - 8192 in
+    let there = c.in_ok-capacity.ensures.there in
+    let long : length (mid_of 8192 size a.image.now) ≡ size = mid_len 8192 a.file_len a.image.now (omega (arith, there)) in
+    rw (c.write_ring.ensures, long) (write_lent 8192 size a.image.now a.logical_pos a.buf.now (omega (arith, there)))

@@ -1,34 +1,38 @@
 -- `ring::write::write_ring` meets its contract, by the invariant that Invariants.antt tells. Assumes nothing.
-use mathlib.Core.Path.{◌≡◌, sym, ◌∙◌}
-use mathlib.Core.List.{List}
-use Prim.Native.Nat.{ℕ, ◌≤◌}
-use native.Mathlib.Omega.{arith}
-use lib.ListN.{length, drop, drop_of_length-le}
+use Rattle.std.proofs.Common.{◌≡◌, List, [], ◌∷◌, ℕ, length, sym, ◌∙◌, arith}
+use Rattle.std.specs.Slice.Iter.{chunks_rest}
 use Rattle.ring.specs.Ring.{ring_write}
 use Rattle.ring.proofs.Writing.{write_none}
 use Rattle.ring.proofs.Segments.{write_first, write_next}
 use Rattle.ring.proofs.write.write_ring.Goals as goal
 
--- where nothing is left to write, the image is as it is
-ended : (start size : ℕ) (img s : List ℕ) (done : ℕ) → length s ≤ done → img ≡ ring_write start size img 0 (drop done s)
-ended start size img s done h = rw (drop_of_length-le s {i = done} h) (sym (write_none start size img 0))
+-- where nothing is left to write, the ring is as it is
+ended : (size : ℕ) (ring s : List ℕ) → length s ≡ 0 → ring ≡ ring_write 0 size ring 0 s
+ended size ring [] e = sym (write_none 0 size ring 0)
+ended size ring (b ∷ s) e = absurd (omega arith)
 
-pub loop-done-preserved : goal.loop-done-preserved
-loop-done-preserved c =
-    let seg = c.segment-k-in-loop-done in
-    let a = c.args in (
-      omega arith,
-      (
-        omega arith,
-        rw c.put-in-loop-done.ensures
-            (write_next a.start a.size c.loop-done.image a.buf.now c.loop-done.done seg.result seg.ensures ∙ c.loop-done.invariant.1.1),
-      ),
-    )
+pub loop-part-init : goal.loop-part-init
+loop-part-init c =
+    let a = c.args in
+    let k = c.chunks-part-items.ensures in
+    record {
+      size = rw (c.into_iter-part-iterator.ensures.into_iter_gives, k.size);
+      ring =
+          rw (c.into_iter-part-iterator.ensures.into_iter_gives, k.rest, c.put.ensures, c.split_at.ensures.front, c.split_at.ensures.back, c.min.ensures)
+          (write_first a.ring.now a.logical_pos c.reduced-at.result a.buf.now c.requires c.reduced-at.ensures.0);
+    }
+
+pub loop-part-preserved : goal.loop-part-preserved
+loop-part-preserved c =
+    let i = c.loop-part.invariant in
+    let s = c.in-Some.ensures.steps in
+    record {
+      size = s.0 ∙ i.size;
+      ring =
+          rw c.copy_into.ensures
+          (write_next _ c.loop-part.ring c.in-Some.part.now (chunks_rest c.next.new.self) (chunks_rest c.loop-part.part-iterator) s.1.0 (rw i.size at s.1.1)
+          ∙ i.ring);
+    }
 
 pub returns : goal.returns
-returns c =
-    let seg = c.segment-k in
-    let a = c.args in
-    ended a.start a.size c.loop-done.image a.buf.now c.loop-done.done (omega arith)
-    ∙ c.loop-done.invariant.1.1
-    ∙ rw c.put.ensures (write_first a.start a.size a.image.now a.pos a.buf.now seg.result seg.ensures)
+returns c = ended _ _ _ c.in-None.ensures.steps.1.0 ∙ c.loop-part.invariant.ring

@@ -1,22 +1,15 @@
--- `script::hex::all_hex_digits` meets its contract, by the invariant that Invariants.antt tells. Assumes nothing.
-use native.Mathlib.Omega.{arith}
-use native.Mathlib.Numerals.{add-one}
+-- `script::hex::all_hex_digits` meets its contract: a byte is a digit where it is worth less than 16. Assumes nothing.
 use mathlib.Core.Path.{sym, ◌∙◌}
-use lib.ListN.{drop_of_length-le}
-use Rattle.script.specs.Digit.{all_below}
-use Rattle.script.proofs.DigitLaws.{below_turn, below_stops}
+use Rattle.std.proofs.Common.{rules, tests}
+use Rattle.std.specs.Option.{is_some}
+use Rattle.std.proofs.lemmas.Iterator.{YieldsList-from_slice}
+use Rattle.std.proofs.lemmas.Iterator.Search.{all_from_yields_List}
+use Rattle.script.specs.Digit.{digit_of}
+use Rattle.script.proofs.DigitLaws.{below_all}
 use Rattle.script.proofs.hex.all_hex_digits.Goals as goal
 
-pub returns-then-worth-gt15 : goal.returns-then-worth-gt15
-returns-then-worth-gt15 c =
-    let s = c.args.word.now in
-    sym (below_stops 16 s c.loop-i.i (omega arith) (omega arith)) ∙ c.loop-i.invariant
-
-pub loop-i-preserved : goal.loop-i-preserved
-loop-i-preserved c =
-    let s = c.args.word.now in
-    rw add-one (sym (below_turn 16 s c.loop-i.i (omega arith) (omega arith)) ∙ c.loop-i.invariant)
-
 pub returns : goal.returns
-unfolding all_below
-returns c = rw (drop_of_length-le c.args.word.now c.loop-i-test.false) at c.loop-i.invariant
+returns c =
+    let s = c.args.word.now in
+    all_from_yields_List (λ b. is_some (digit_of b)) _ _ c.all.result c.all.ensures.ran (YieldsList-from_slice s c.iter.ensures.rest) (λ x b q k. search (rules, tests))
+    ∙ sym (below_all s)

@@ -1,53 +1,58 @@
 -- `script::hex::fill` meets its contract, by the invariant that Invariants.antt tells. Assumes nothing.
-use borrow.Author.Rules.{rules}
 use native.Mathlib.Omega.{arith}
 use native.Mathlib.Numerals.{add-one}
-use mathlib.Core.Path.{◌≡◌, sym, ◌∙◌}
-use Prim.Native.Nat.{ℕ, ◌+◌, ◌*◌, ◌<◌}
-use mathlib.Core.List.{List}
-use mathlib.Core.Bool.{true}
-use lib.ListN.{length, get_or, length-set}
+use mathlib.Core.Path.{sym, ◌∙◌}
+use Prim.Native.Nat.{◌+◌, ◌*◌}
+use lib.ListN.{length, length-set}
 use lib.Seq.{take-suc, take-suc-set, take_all}
-use Rattle.script.specs.Digit.{worth_of, all_below}
+use Rattle.std.proofs.Common.{rules}
+use Rattle.std.proofs.lemmas.List.{length_push}
+use Rattle.std.proofs.lemmas.Iterator.Consumers.{YieldsList-turn, YieldsList-end, YieldsList-at}
 use Rattle.script.specs.Hex.{unhex}
 use Rattle.script.proofs.DigitLaws.{below_at}
 use Rattle.script.proofs.HexLaws.{unhex-length, unhex-at}
+use Rattle.script.proofs.PairLaws.{YieldsList-from_pairs, pair_turn, pair_turns}
 use Rattle.script.proofs.hex.fill.Goals as goal
 
--- a digit that a turn reads is below 16
-digit_fits : (word : List ℕ) (at r : ℕ) → all_below 16 word ≡ true → at < length word → r ≡ worth_of (get_or word at 0) → r < 16
-digit_fits word at r below h e = omega (arith, below_at 16 word at below h, e)
-
-pub overflow_mul-out : goal.overflow_mul-out
-overflow_mul-out c =
-    omega (arith, digit_fits c.args.word.now (2 * c.loop-i.i) c.worth-high.result c.requires.1 (omega arith) c.worth-high.ensures)
-
-pub overflow_add-out : goal.overflow_add-out
-overflow_add-out c =
-    let w = c.args.word.now in
-    let i = c.loop-i.i in
-    omega (
-      arith,
-      digit_fits w (2 * i) c.worth-high.result c.requires.1 (omega arith) c.worth-high.ensures,
-      digit_fits w (2 * i + 1) c.worth-low.result c.requires.1 (omega arith) c.worth-low.ensures,
-    )
+pub byte-requires : goal.byte-requires
+byte-requires c =
+    let s = c.args.word.now in
+    let k = length c.loop-i.yielded in
+    let items = c.enumerate-i-items.ensures in
+    let pairs = YieldsList-from_pairs s (rw items.source c.chunks_exact.ensures.rest) (rw items.source c.chunks_exact.ensures.size) items.count in
+    let road = YieldsList-at c.into_iter-i-iterator.ensures.into_iter_gives pairs in
+    let turn = YieldsList-turn road c.loop-i.yielded _ c.loop-i.yielded_by _ _ (c.in-Some.i, c.in-Some.pair) c.in-Some.is c.next.ensures.steps in
+    let pair = pair_turn s k c.in-Some.i c.in-Some.pair.now turn in
+    record {
+      high_is_digit = rw pair.2 (below_at 16 s (2 * k) c.requires.digits (omega (arith, pair.0)));
+      low_is_digit = rw pair.2 (below_at 16 s (2 * k + 1) c.requires.digits pair.0);
+    }
 
 pub loop-i-preserved : goal.loop-i-preserved
 loop-i-preserved c =
     let s = c.args.word.now in
-    let d = c.loop-i.out in
-    let i = c.loop-i.i in
-    let v = c.worth-high.result * 16 + c.worth-low.result in (
-      simp length-set (search rules),
-      (
-        simp length-set c.loop-i.invariant.1.0,
-        rw (add-one, take-suc-set d i v (omega arith), take-suc (unhex s) i 0 (omega (arith, unhex-length s)))
-            (rw (c.loop-i.invariant.1.1, unhex-at s i (omega arith), c.worth-high.ensures, c.worth-low.ensures)),
-      ),
+    let out = c.loop-i.out in
+    let k = length c.loop-i.yielded in
+    let items = c.enumerate-i-items.ensures in
+    let pairs = YieldsList-from_pairs s (rw items.source c.chunks_exact.ensures.rest) (rw items.source c.chunks_exact.ensures.size) items.count in
+    let road = YieldsList-at c.into_iter-i-iterator.ensures.into_iter_gives pairs in
+    let turn = YieldsList-turn road c.loop-i.yielded _ c.loop-i.yielded_by _ _ (c.in-Some.i, c.in-Some.pair) c.in-Some.is c.next.ensures.steps in
+    let pair = pair_turn s k c.in-Some.i c.in-Some.pair.now turn in
+    let value = rw pair.2 at c.byte.ensures in (
+      search rules,
+      search rules,
+      simp length-set c.loop-i.invariant.2,
+      rw (length_push c.loop-i.yielded (c.in-Some.i, c.in-Some.pair), pair.1, add-one, take-suc-set out k c.byte.result (omega (arith, pair.0)), take-suc (unhex s) k 0 (omega (arith, unhex-length s, pair.0)))
+          (rw (c.loop-i.invariant.3, unhex-at s k pair.0, value)),
     )
 
 pub returns : goal.returns
 returns c =
     let s = c.args.word.now in
-    let i = c.loop-i.i in
-    sym (take_all i c.loop-i.out (omega arith)) ∙ c.loop-i.invariant.1.1 ∙ take_all i (unhex s) (omega (arith, unhex-length s))
+    let k = length c.loop-i.yielded in
+    let items = c.enumerate-i-items.ensures in
+    let pairs = YieldsList-from_pairs s (rw items.source c.chunks_exact.ensures.rest) (rw items.source c.chunks_exact.ensures.size) items.count in
+    let road = YieldsList-at c.into_iter-i-iterator.ensures.into_iter_gives pairs in
+    let end = YieldsList-end road c.loop-i.yielded _ c.loop-i.yielded_by _ _ c.in-None.is c.next.ensures.steps in
+    let all = end.1 ∙ pair_turns s in
+    sym (take_all k c.loop-i.out (omega (arith, all))) ∙ c.loop-i.invariant.3 ∙ take_all k (unhex s) (omega (arith, all, unhex-length s))

@@ -1,16 +1,11 @@
--- `script::line::count_words` meets its contract. The invariant: what is counted so far and the words of the rest make the line's words,
--- with the word that goes on across this place counted twice.
+-- `script::line::count_words` meets its contract. The invariant: one more than the spaces so far.
 -- Assumes nothing.
 use mathlib.Core.Path.{◌≡◌}
-use mathlib.Core.List.{List}
-use Prim.Native.Nat.{ℕ, ◌+◌, ◌≤◌, ◌-◌}
-use lib.ListN.{length, drop}
-use Rattle.script.specs.Line.{words}
+use Prim.Native.Nat.{◌+◌}
+use lib.Dec.{eqb}
+use lib.ListN.{take}
+use Rattle.std.specs.List.{count_by}
 use Rattle.script.proofs.line.count_words.Given as goal
 
-abbrev pub invariant-loop-i : goal.invariant-loop-i
-invariant-loop-i l =
-    (l.i ≤ length l.line) × (l.n ≤ l.i + 1) × (l.n + length {A = List ℕ} (words (drop l.i l.line)) ≡ length {A = List ℕ} (words l.line) + 1)
-
-abbrev pub decreases-loop-i : goal.decreases-loop-i
-decreases-loop-i l = length l.line - l.i
+abbrev pub invariant-loop-b : goal.invariant-loop-b
+invariant-loop-b l = l.n ≡ 1 + count_by (λ b. eqb b 32) (take l.b-index l.line)

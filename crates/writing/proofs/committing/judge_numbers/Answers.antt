@@ -1,16 +1,11 @@
--- `writing::committing::judge_numbers` meets its contract: the two limits are tested in the definition's order. Assumes nothing.
-use Rattle.refusal.proofs.Laws.{decide}
-use Rattle.writing.specs.Commit.{judge_numbers}
+-- `writing::committing::judge_numbers` meets its contract: the two limits are tested in the definition's order, and those of a
+-- sound state are so small that the sums fit. Assumes nothing.
+use native.Mathlib.Omega.{arith}
+use Rattle.queue.proofs.Sound.{sound_numbers_lem}
 use Rattle.writing.proofs.committing.judge_numbers.Goals as goal
 
-pub returns-then-format-commits-ge9223372036854775808 : goal.returns-then-format-commits-ge9223372036854775808
-unfolding judge_numbers
-returns-then-format-commits-ge9223372036854775808 c = search decide
+pub overflow_add-format : goal.overflow_add-format
+overflow_add-format c = omega (arith, c.requires.0, (sound_numbers_lem _ _ c.args.q.is_sound).generation)
 
-pub returns-then-format-elements-ge9223372036854775808 : goal.returns-then-format-elements-ge9223372036854775808
-unfolding judge_numbers
-returns-then-format-elements-ge9223372036854775808 c = search decide
-
-pub returns : goal.returns
-unfolding judge_numbers
-returns c = search decide
+pub overflow_add-format-2 : goal.overflow_add-format-2
+overflow_add-format-2 c = omega (arith, c.requires.1, (sound_numbers_lem _ _ c.args.q.is_sound).next_small)

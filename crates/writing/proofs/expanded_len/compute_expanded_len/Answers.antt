@@ -11,7 +11,7 @@ unfolding grow_length
 loop-init c =
     let a = c.args in (
       length_none a.current_len,
-      c.missing_from-missing.ensures ∙ missing_none a.current_len a.remaining_bytes a.data_len,
+      c.saturating_sub-missing.ensures ∙ missing_none a.current_len a.remaining_bytes a.data_len,
       refl,
     )
 
@@ -46,7 +46,7 @@ loop-preserved c =
     let i = c.loop.invariant in
     let a = c.args in (
       ap (λ (x : ℕ). x * 2) i.0 ∙ sym (length_next a.current_len c.loop.counter),
-      c.missing_from-missing-in-loop.ensures
+      c.saturating_sub-missing-in-loop.ensures
           ∙ missing_next a.current_len a.remaining_bytes a.data_len c.loop.counter c.loop.new_len c.loop.missing i.0 i.1,
       i.2 ∙ least_there 63 c.loop.counter _ _ _ c.loop-test.true (some_missing _ _ _ i.1 c.if-missing-eq0.false),
     )

@@ -8,8 +8,7 @@ use lib.ListN.{length}
 use Rattle.queue.specs.declared.state.QueueFile.{QueueFile}
 use Rattle.queue.proofs.Sound.{sound_numbers_lem, first_lies}
 use Rattle.writing.specs.Work.{Work, with_length}
-use Rattle.writing.specs.Growth.{end_of_last}
-use Rattle.writing.specs.Expansion.{lengthened, laid_straight, expanded}
+use Rattle.writing.specs.Expansion.{lengthened}
 use Rattle.writing.proofs.StateLaws.{last_stands, wrapped-some, wrapped-end}
 use Rattle.writing.proofs.expansion.expand.Goals as goal
 
@@ -18,35 +17,27 @@ longer_state : (n : ℕ) (q r : QueueFile) (img img' : List ℕ) → (r, img') �
 unfolding lengthened
 longer_state n q r img img' e = ap (λ (w : Work). w.0) e
 
-pub wraps-requires : goal.wraps-requires
-wraps-requires c =
-    last_stands c.args.q (length c.args.image.now) c.requires.sound
-
-pub returns-then-not-wraps : goal.returns-then-not-wraps
-unfolding expanded
-returns-then-not-wraps c =
-    rw (sym c.wraps.ensures ∙ c.if-not-wraps.true) c.lengthen-longer.ensures
-
 pub end_of_last-requires : goal.end_of_last-requires
 end_of_last-requires c =
-    last_stands c.args.q (length c.args.image.now) c.requires.sound (wrapped-some c.args.q (sym c.wraps.ensures ∙ c.if-not-wraps.false))
+    last_stands _ _ c.args.q.is_sound (wrapped-some _ (sym c.wraps.ensures ∙ c.if-not-wraps.false))
 
-pub relocate_wrapped_data-requires : goal.relocate_wrapped_data-requires
-relocate_wrapped_data-requires c =
-    let q = c.args.q in
+-- what is moved lies in the old ring
+pub invariant_of-moved : goal.invariant_of-moved
+invariant_of-moved c =
+    let q = c.args.q.state in
     let x = c.requires in
     let y = sym c.wraps.ensures ∙ c.if-not-wraps.false in
     let f = first_lies q (length c.args.image.now) x.sound (wrapped-some q y) in
-    let n = sound_numbers_lem q (length c.args.image.now) x.sound in
     let e = wrapped-end q y in
+    record { fits = (omega (arith, c.end_of_last.ensures, e, f.some, f.place), omega (arith, x.twice, x.small)) }
+
+pub relocate_wrapped_data-requires : goal.relocate_wrapped_data-requires
+relocate_wrapped_data-requires c =
+    let q = c.args.q.state in
+    let x = c.requires in
+    let f = first_lies q (length c.args.image.now) x.sound (wrapped-some q (sym c.wraps.ensures ∙ c.if-not-wraps.false)) in
+    let n = sound_numbers_lem q (length c.args.image.now) x.sound in
     rw (longer_state _ _ _ _ _ c.lengthen-longer.ensures) (record {
-      end_bound = (omega (arith, c.end_of_last.ensures, e, f.some, f.place), x.twice, omega (arith, x.inside, c.lengthen-longer.auto.image), x.small);
+      lens = (x.twice, omega (arith, x.inside, c.lengthen-longer.auto.image), x.small);
       pos_bound = (f.place, n.generation);
     })
-
-pub returns : goal.returns
-unfolding expanded
-returns c =
-    let q = c.args.q in
-    let laid = rw c.end_of_last.ensures at c.relocate_wrapped_data.ensures in
-    rw (sym c.wraps.ensures ∙ c.if-not-wraps.false) (laid ∙ ap (laid_straight q.file_len (end_of_last q)) c.lengthen-longer.ensures)

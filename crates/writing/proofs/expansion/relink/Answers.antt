@@ -14,7 +14,7 @@ returns-in_default c =
     rw (
       i.2,
       relink_unroll _ _ _ _ _ _ _ c.loop-test.true,
-      header_there _ _ _ _ _ _ c.requires.lt_file_len.0 c.requires.lt_file_len.1 i.0 c.validate_v2_element_header.ensures c.in_default.is,
+      header_there _ _ _ _ _ _ c.requires.0 c.requires.1 i.0 c.validate_v2_element_header.ensures c.in_default.is,
     )
 
 pub behind-pos-requires : goal.behind-pos-requires
@@ -22,13 +22,13 @@ behind-pos-requires c =
     let i = c.loop.invariant in
     rw c.here.ensures
     record {
-      some = c.requires.lt_file_len.0;
+      some = c.requires.0;
       inside = omega arith;
-      small = c.requires.lt_file_len.2;
+      small = c.requires.2;
       place = i.1;
       span =
           header_fits c.loop.image _ c.loop.pos _
-          (header_there _ _ _ _ _ _ c.requires.lt_file_len.0 c.requires.lt_file_len.1 i.0 c.validate_v2_element_header.ensures c.in-Header.is);
+          (header_there _ _ _ _ _ _ c.requires.0 c.requires.1 i.0 c.validate_v2_element_header.ensures c.in-Ok.is);
     }
 
 pub loop-preserved : goal.loop-preserved
@@ -39,7 +39,7 @@ loop-preserved c =
       rw (
         i.2,
         relink_unroll _ _ _ _ _ _ _ c.loop-test.true,
-        header_there _ _ _ _ _ _ c.requires.lt_file_len.0 c.requires.lt_file_len.1 i.0 c.validate_v2_element_header.ensures c.in-Header.is,
+        header_there _ _ _ _ _ _ c.requires.0 c.requires.1 i.0 c.validate_v2_element_header.ensures c.in-Ok.is,
         c.relink_header.ensures,
         c.behind-pos.ensures,
         c.here.ensures,

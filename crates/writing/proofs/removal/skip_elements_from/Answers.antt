@@ -10,7 +10,7 @@ use Rattle.writing.proofs.removal.skip_elements_from.Goals as goal
 pub loop-left-preserved : goal.loop-left-preserved
 loop-left-preserved c =
     let h = c.loop-left.invariant.0 in
-    let r = sym (header_read c.args.image.now _ _ h.some h.inside) ∙ sym c.validate_v2_element_header-parsed.ensures ∙ c.in-Header.is in (
+    let r = sym (header_read c.args.image.now _ _ h.some h.inside) ∙ sym c.validate_v2_element_header-parsed.ensures ∙ c.in-Ok.is in (
       rw c.here-elem.ensures
           record {
             some = h.some;
@@ -31,10 +31,8 @@ pub returns-in_default : goal.returns-in_default
 returns-in_default c =
     let h = c.loop-left.invariant.0 in
     rw (
-      c.refusal.ensures,
       c.loop-left.invariant.1,
       skip_unroll _ _ _ _ c.if-left-eq0.false,
       ← c.behind-pos.ensures,
-      sym (header_read c.args.image.now _ _ h.some h.inside) ∙ sym c.validate_v2_element_header-parsed.ensures,
-      c.in_default.is,
+      sym (header_read c.args.image.now _ _ h.some h.inside) ∙ sym c.validate_v2_element_header-parsed.ensures ∙ c.unwrap_err.ensures,
     )

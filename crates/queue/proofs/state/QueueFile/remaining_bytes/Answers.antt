@@ -1,14 +1,12 @@
--- `queue::state::QueueFile::remaining_bytes` meets its contract: where the state is sound, by `used`. Assumes nothing.
-use mathlib.Core.Path.{ap, sym, ◌∙◌}
-use Prim.Native.Nat.{ℕ, ◌-◌}
-use Rattle.queue.specs.declared.state.Count.TheVariants as Count
-use Rattle.refusal.proofs.Laws.{decide, met}
+-- `queue::state::QueueFile::remaining_bytes` meets its contract: it is asked of the state where that is sound. Assumes nothing.
+use mathlib.Core.Path.{ap, ◌∙◌}
+use Rattle.refusal.proofs.Laws.{met}
+use Rattle.queue.specs.State.{remaining_bytes}
+use Rattle.queue.proofs.SoundQueueLaws.{judged}
 use Rattle.queue.proofs.state.QueueFile.remaining_bytes.Goals as goal
-
-pub returns-then-not-is_sound : goal.returns-then-not-is_sound
-returns-then-not-is_sound c = search decide
+use Rattle.std.specs.Prelude.{Ok}
 
 pub returns : goal.returns
 returns c =
-    met _ _ _ (sym c.is_sound.ensures ∙ c.if-not-is_sound.false)
-    (ap (λ (n : ℕ). Count.Bytes (c.args.self.file_len - n)) c.used.ensures.0)
+    let j = judged c.sound.ensures c.in_ok-q.was in
+    met _ _ _ j.sound (ap Ok (c.remaining.ensures ∙ ap remaining_bytes j.state))

@@ -1,6 +1,0 @@
--- `listing::output::put_numbers` is safe and ends: it reads within `numbers`, one place further each turn.
-use Rattle.std.proofs.Common.{◌-◌, length}
-use Rattle.listing.proofs.output.put_numbers.Given as goal
-
-abbrev pub decreases-loop-i : goal.decreases-loop-i
-decreases-loop-i g l = length l.numbers - l.i

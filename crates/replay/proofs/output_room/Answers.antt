@@ -1,7 +1,0 @@
--- `replay::output_room` meets its contract: what is repeated 65536 times has that length.
-use Rattle.std.proofs.Common.{ℕ, sym}
-use Rattle.std.proofs.lemmas.List.{length-replicate}
-use Rattle.replay.proofs.output_room.Goals as goal
-
-pub returns : goal.returns
-returns c = sym (length-replicate {A = ℕ} 65536 0)
