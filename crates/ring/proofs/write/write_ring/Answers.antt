@@ -1,5 +1,5 @@
 -- `ring::write::write_ring` meets its contract, by the invariant that Invariants.antt tells. Assumes nothing.
-use Rattle.std.proofs.Common.{◌≡◌, List, [], ◌∷◌, ℕ, length, sym, ◌∙◌, arith}
+use Rattle.std.proofs.Common.{◌≡◌, List, [], ◌∷◌, ℕ, length, drop, sym, ◌∙◌, arith}
 use Rattle.std.specs.Slice.Iter.{chunks_rest}
 use Rattle.ring.specs.Ring.{ring_write}
 use Rattle.ring.proofs.Writing.{write_none}
@@ -18,7 +18,8 @@ loop-part-init c =
     record {
       size = rw (c.into_iter-part-iterator.ensures.into_iter_gives, k.size);
       ring =
-          rw (c.into_iter-part-iterator.ensures.into_iter_gives, k.rest, c.put.ensures, c.split_at.ensures.front, c.split_at.ensures.back, c.min.ensures)
+          let back : chunks_rest c.chunks-part-items.result ≡ drop c.min.result a.buf.now = k.rest ∙ c.split_at.ensures.back in
+          rw (c.into_iter-part-iterator.ensures.into_iter_gives, back, c.put.ensures, c.split_at.ensures.front, c.min.ensures)
           (write_first a.ring.now a.logical_pos c.reduced-at.result a.buf.now c.requires c.reduced-at.ensures.0);
     }
 
