@@ -1,6 +1,6 @@
 -- A header slot: its 56 bytes, and what reading them answers. All numbers are big-endian.
 -- Assumes nothing.
-use Rattle.std.specs.Prelude.{ℕ, ◌^◌, ◌<◌, List, [], ◌∷◌, ◌++◌, length, take, ltb, leb, eqb, Result, Ok, Err}
+use Rattle.std.specs.Prelude.{ℕ, ◌^◌, ◌<◌, List, [], ◌∷◌, ◌++◌, length, take, codes, ltb, leb, eqb, Result, Ok, Err}
 use Rattle.refusal.specs.declared.Refusal.TheVariants.{Short, NotASlot, FieldTooLarge}
 use Rattle.refusal.specs.Answer.{on_verdict}
 use Rattle.refusal.specs.Demand.{demand}
@@ -21,6 +21,11 @@ other_slot B = A
 abbrev pub slot_offset : HeaderSlot → ℕ
 slot_offset A = 0
 slot_offset B = 4096
+
+-- the letter that it is printed as
+abbrev pub slot_letter : HeaderSlot → List ℕ
+slot_letter A = codes "A"
+slot_letter B = codes "B"
 
 -- ---- what it holds
 

@@ -3,8 +3,8 @@
 // Each definition that an answer equals is a list of demands: `pass` and `stop` say what it is past one that is met, and at one that is not.
 #![tactic(auto, using(refusal::proofs::Laws::pass, refusal::proofs::Laws::stop, std::proofs::lemmas::Bool::Decides::nat_tests))]
 
-ghost use Rattle.std.specs.Prelude.{◌≡◌};
-ghost use Rattle.header.specs.Slot.{other_slot, slot_offset, slot_bytes, judge_fields, encode_slot, slot_at, judge_slot, parse_slot};
+ghost use Rattle.std.specs.Prelude.{◌≡◌, Some};
+ghost use Rattle.header.specs.Slot.{other_slot, slot_offset, slot_letter, slot_bytes, judge_fields, encode_slot, slot_at, judge_slot, parse_slot};
 
 use refusal::Refusal;
 use std::fmt;
@@ -47,6 +47,8 @@ impl HeaderSlot {
 }
 
 impl fmt::Display for HeaderSlot {
+    ghost output = { λ slot. Some (slot_letter slot) };
+
     fn fmt<W: fmt::Write>(&self, f: &mut fmt::Formatter<W>) -> fmt::Result {
         f.write_str(match self {
             HeaderSlot::A => "A",
