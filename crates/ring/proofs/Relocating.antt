@@ -1,14 +1,14 @@
 -- The laws of a relocation: what it leaves as it was, and that a longer ring then reads on as the shorter one did. Assumes nothing.
-use mathlib.Core.Path.{◌≡◌, ◌∙◌}
+use mathlib.Core.Path.{◌≡◌, ap, ◌∙◌}
 use mathlib.Core.List.{List}
 use Prim.Native.Nat.{ℕ, ◌+◌, ◌-◌, ◌%◌, ◌≤◌, ◌<◌}
 use native.Mathlib.Decide.{dec_le}
 use native.Mathlib.Omega.{arith}
 use lib.ListN.{length, get_or}
 use lib.Seq.{length-sets}
-use Rattle.wire.specs.Wire.{Bytes, bytes_at}
-use Rattle.wire.proofs.Numbers.{length-bytes_at, bytes-bytes_at, get_d_bytes_at}
-use Rattle.wire.proofs.Stores.{put_at-before, put_at-after, put_at-within, put_at-bytes}
+use Rattle.wire.specs.Wire.{Bytes, bytes_at, put_at}
+use Rattle.wire.proofs.Numbers.{length-bytes_at, bytes-bytes_at, bytes_at_same, bytes_at-append, get_d_bytes_at}
+use Rattle.wire.proofs.Stores.{put_at-append, put_at-before, put_at-after, put_at-within, put_at-bytes}
 use Rattle.ring.specs.Ring.{ring_read, relocated}
 use Rattle.ring.proofs.Places.{turn_low, turn_high}
 use Rattle.ring.proofs.Reading.{read_ext}
@@ -45,3 +45,13 @@ read_relocated start size img c new p n h k f l =
         rw (e, turn_high size j y (omega arith)) (relocated-within start img (start + size) c (j - size) (omega arith) f)
     go j b (no x) =
         rw (turn_low size j (omega (arith, x))) (relocated-before start img (start + size) c (start + j) (omega (arith, x)))
+
+-- the first k bytes, and then the rest
+pub relocate_on : (start : ℕ) (img : List ℕ) (old k c : ℕ) → start + (k + c) ≤ old
+    → relocated start img old (k + c) ≡ relocated (start + k) (relocated start img old k) (old + k) c
+relocate_on start img old k c f =
+    let kept : bytes_at c (relocated start img old k) (start + k) ≡ bytes_at c img (start + k) =
+    bytes_at_same c (relocated start img old k) img (start + k) (λ i l. relocated-before start img old k (start + k + i) (omega arith)) in
+    ap (put_at img old) (bytes_at-append k c img start)
+    ∙ put_at-append img old (bytes_at k img start) (bytes_at c img (start + k))
+    ∙ rw (length-bytes_at k img start, ← kept)

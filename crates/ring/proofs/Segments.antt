@@ -9,10 +9,10 @@ use native.Mathlib.Nat.{add-zero, zero-add, sub-zero, add_assoc, mod-lt, mod-add
 use native.Mathlib.Decide.{dec_le, dec_lt}
 use native.Mathlib.Omega.{arith}
 use lib.ListN.{length, get_or, take, drop, length-drop, length-append, take-append-drop, replicate, length-replicate, get_or-replicate, replicate-append-replicate}
-use lib.Seq.{ext_get_or, get_or-take, get_or-drop, length-sets, length-take-le}
+use lib.Seq.{drop-drop, ext_get_or, get_or-take, get_or-drop, length-sets, length-take-le}
 use Rattle.wire.specs.Wire.{bytes_at, put_at}
-use Rattle.wire.proofs.Numbers.{bytes_at_part}
-use Rattle.wire.proofs.Stores.{put_at-before, put_at-within}
+use Rattle.wire.proofs.Numbers.{cut_mid, bytes_at_part}
+use Rattle.wire.proofs.Stores.{put_at-append, put_at-before, put_at-within}
 use borrow.Author.Tests.{leb-true}
 use Rattle.ring.specs.Ring.{ring_read, ring_write, ring_erase, ring_distance, phys_pos, front_len, wrapped_len, parts_of, ring_parts, front_bytes, wrapped_bytes}
 use Rattle.ring.specs.declared.parts.Parts.{Parts}
@@ -33,6 +33,14 @@ segment size at n h = record { inside = omega arith; within = omega arith; ends 
     ends : Dec (n ≤ size - at) → (at + min n (size - at) ≡ size) ⊎ (min n (size - at) ≡ n)
     ends (yes y) = inr (omega (arith, y))
     ends (no x) = inl (omega (arith, x))
+
+-- there is a byte before the ring's end
+pub segment_some : (size at n k : ℕ) → Segment size at n k → at < size → 0 < n → 0 < k
+segment_some size at n k g h l = ⊎_elim (λ e. omega arith) (λ e. omega arith) g.ends
+
+-- and how many there are, in numbers
+pub segment_min : (size p n k : ℕ) → Segment size (p % size) n k → k ≡ front_len size p n
+segment_min size p n k g = ⊎_elim (λ e. omega arith) (λ e. omega arith) g.ends
 
 -- the place where a segment ends is the ring's start, but for the last
 end_is_start : (size at k : ℕ) → at + k ≡ size → (at + k) % size ≡ 0 % size
@@ -93,6 +101,32 @@ split_joins start img file p n parts e =
     let fits = leb-true n (file - start) b.0 in
     let same : parts_of start (file - start) p n ≡ parts = cc in
     rw (← same) (sym (read_parts start (file - start) img p n (omega arith) (omega arith) fits))
+
+-- k bytes stored in out from `done` on, and then the rest: the first part of a read, `image[from..from + k]`
+read_stored : (start size : ℕ) (img : List ℕ) (at : ℕ) (out : List ℕ) (done n k : ℕ) → start + size ≤ length img → Segment size at n k
+    → put_at (put_at out done (take k (drop (start + at) img))) (done + k) (ring_read start size img 0 (n - k))
+    ≡ put_at out done (ring_read start size img at n)
+read_stored start size img at out done n k f g =
+    let part : List ℕ = take k (drop (start + at) img) in
+    let same : bytes_at k img (start + at) ≡ part = bytes_at_part k img (start + at) (omega (arith, g.inside)) in
+    let lp : length part ≡ k = length-take-le k (drop (start + at) img) (rw length-drop (omega (arith, g.inside))) in
+    sym
+    (ap (put_at out done) (read_on start size img at n k g)
+    ∙ rw same (put_at-append out done part (ring_read start size img 0 (n - k)) ∙ rw lp))
+
+pub read_first : (start size : ℕ) (img : List ℕ) (at : ℕ) (out : List ℕ) (n k : ℕ) → start + size ≤ length img → Segment size at n k
+    → put_at (put_at out 0 (take (start + at + k - (start + at)) (drop (start + at) img))) k (ring_read start size img 0 (n - k))
+    ≡ put_at out 0 (ring_read start size img at n)
+read_first start size img at out n k f g = rw (cut_mid (start + at) k img) (rw zero-add at (read_stored start size img at out 0 n k f g))
+
+-- and a later one, `image[start..start + k]`, where `done` of n bytes are read
+pub read_next : (start size : ℕ) (img out : List ℕ) (done n k : ℕ) → start + size ≤ length img → Segment size 0 (n - done) k
+    → put_at (put_at out done (take (start + k - start) (drop start img))) (done + k) (ring_read start size img 0 (n - (done + k)))
+    ≡ put_at out done (ring_read start size img 0 (n - done))
+read_next start size img out done n k f g =
+    let left : n - (done + k) ≡ n - done - k = omega arith in
+    let stored = rw (add-zero start) at (read_stored start size img 0 out done (n - done) k f g) in
+    rw (cut_mid start k img, left) stored
 
 -- the first `done` bytes of out are the ring's from the place p on, and the next one is the ring's first
 pub record Filled (ring : List ℕ) (p : ℕ) (out : List ℕ) (done : ℕ) : Type 0 where
@@ -176,26 +210,25 @@ write_on start size img at s t g =
     last n [] e z = write_none start size _ (at + length s) ∙ sym (write_none start size _ 0)
     last n (b ∷ t) e z = absurd (omega arith)
 
--- the first part of a write, and then the rest
-pub write_first : (ring : List ℕ) (p at : ℕ) (s : List ℕ) → 0 < length ring → at ≡ p % length ring
-    → let k : ℕ = min (length s) (length ring - at) in
-    ring_write 0 (length ring) (put_at ring at (take k s)) 0 (drop k s) ≡ ring_write 0 (length ring) ring p s
-write_first ring p at s h e =
-    let k : ℕ = min (length s) (length ring - at) in
-    let low : at < length ring = rw e (mod-lt p h) in
-    let g : Segment (length ring) at (length s) k = segment (length ring) at (length s) (omega arith) in
+-- the first part of a write, `s[0..k]`, and then the rest
+write_stored : (start size : ℕ) (img : List ℕ) (at : ℕ) (s : List ℕ) (k : ℕ) → Segment size at (length s) k
+    → ring_write start size (put_at img (start + at) (take k s)) 0 (drop k s) ≡ ring_write start size img at s
+write_stored start size img at s k g =
     let lt : length (take k s) ≡ k = length-take-le k s g.within in
     let ld : length (drop k s) ≡ length s - k = length-drop k s in
     let all : length (take k s) + length (drop k s) ≡ length s = omega (arith, g.within) in
-    rw zero-add at (sym (write_on 0 (length ring) ring at (take k s) (drop k s) (rw (all, lt) g)))
-    ∙ rw (take-append-drop k s, e) (write_mod 0 (length ring) ring p s)
+    sym (write_on start size img at (take k s) (drop k s) (rw (all, lt) g)) ∙ ap (ring_write start size img at) (take-append-drop k s)
 
--- and a later one, which is at most a turn, and the last if it is less
-pub write_next : (size : ℕ) (ring s t all : List ℕ) → all ≡ s ++ t → length s ≡ min size (length all)
-    → ring_write 0 size (put_at ring 0 s) 0 t ≡ ring_write 0 size ring 0 all
-write_next size ring s t all e f =
-    let k : min (length s + length t) (size - 0) ≡ length s = omega (arith, ap length e, length-append s t) in
-    sym (write_on 0 size ring 0 s t (rw k at (segment size 0 (length s + length t) (omega arith)))) ∙ rw e
+pub write_first : (start size : ℕ) (img : List ℕ) (at : ℕ) (s : List ℕ) (k : ℕ) → Segment size at (length s) k
+    → ring_write start size (put_at img (start + at) (take (k - 0) (drop 0 s))) 0 (drop k s) ≡ ring_write start size img at s
+write_first start size img at s k g = rw (sub-zero k) (write_stored start size img at s k g)
+
+-- and a later one, `s[done..done + k]`
+pub write_next : (start size : ℕ) (img s : List ℕ) (done k : ℕ) → Segment size 0 (length s - done) k
+    → ring_write start size (put_at img start (take (done + k - done) (drop done s))) 0 (drop (done + k) s) ≡ ring_write start size img 0 (drop done s)
+write_next start size img s done k g =
+    let stored = rw (add-zero start) at (write_stored start size img 0 (drop done s) k (rw (length-drop done s) g)) in
+    rw (cut_mid done k s, ← drop-drop k done s) stored
 
 -- ---- zeros
 
@@ -238,10 +271,10 @@ erase_round start size img p n h f l =
     ∙ zeros_round start size img (p + length (replicate {A = ℕ} a 0)) p h f
 
 -- so an erasure is at most two stores of zeros
-erase_stored : (start size : ℕ) (img : List ℕ) (at n once k : ℕ) → at < size → start + size ≤ length img
+pub erase_parts : (start size : ℕ) (img : List ℕ) (at n once k : ℕ) → at < size → start + size ≤ length img
     → Segment size 0 n once → Segment size at once k
     → put_at (put_at img (start + at) (replicate k 0)) start (replicate (once - k) 0) ≡ ring_erase start size img at n
-erase_stored start size img at n once k h f o g =
+erase_parts start size img at n once k h f o g =
     let s : List ℕ = replicate k 0 in
     let t : List ℕ = replicate (once - k) 0 in
     let ls : length s ≡ k = length-replicate k 0 in
@@ -258,14 +291,33 @@ erase_stored start size img at n once k h f o g =
     enough (inl e) = let once-round : once ≡ size = omega arith in rw once-round (erase_round start size img at n (omega arith) f (omega arith))
     enough (inr e) = rw e
 
-pub erase_parts : (ring : List ℕ) (p at n : ℕ) → 0 < length ring → at ≡ p % length ring
+-- ---- the ring lent alone, whose data start at 0, and any place
+
+-- the first part of a write, and then the rest
+pub alone_first : (ring : List ℕ) (p at : ℕ) (s : List ℕ) → 0 < length ring → at ≡ p % length ring
+    → let k : ℕ = min (length s) (length ring - at) in
+    ring_write 0 (length ring) (put_at ring at (take k s)) 0 (drop k s) ≡ ring_write 0 (length ring) ring p s
+alone_first ring p at s h e =
+    let low : at < length ring = rw e (mod-lt p h) in
+    rw zero-add at (write_stored 0 (length ring) ring at s _ (segment (length ring) at (length s) (omega arith)))
+    ∙ rw e (write_mod 0 (length ring) ring p s)
+
+-- and a later one, which is at most a turn, and the last if it is less
+pub alone_next : (size : ℕ) (ring s t all : List ℕ) → all ≡ s ++ t → length s ≡ min size (length all)
+    → ring_write 0 size (put_at ring 0 s) 0 t ≡ ring_write 0 size ring 0 all
+alone_next size ring s t all e f =
+    let k : min (length s + length t) (size - 0) ≡ length s = omega (arith, ap length e, length-append s t) in
+    sym (write_on 0 size ring 0 s t (rw k at (segment size 0 (length s + length t) (omega arith)))) ∙ rw e
+
+-- the two stores of an erasure
+pub alone_erased : (ring : List ℕ) (p at n : ℕ) → 0 < length ring → at ≡ p % length ring
     → let once : ℕ = min n (length ring) in
     let k : ℕ = min once (length ring - at) in
     put_at (put_at ring at (replicate k 0)) 0 (replicate (once - k) 0) ≡ ring_erase 0 (length ring) ring p n
-erase_parts ring p at n h e =
+alone_erased ring p at n h e =
     let once : ℕ = min n (length ring) in
     let k : ℕ = min once (length ring - at) in
     let low : at < length ring = rw e (mod-lt p h) in
     let o : Segment (length ring) 0 n once = rw sub-zero at (segment (length ring) 0 n (omega arith)) in
-    rw zero-add at (erase_stored 0 (length ring) ring at n once k low (omega arith) o (segment (length ring) at once (omega arith)))
+    rw zero-add at (erase_parts 0 (length ring) ring at n once k low (omega arith) o (segment (length ring) at once (omega arith)))
     ∙ rw e (write_mod 0 (length ring) ring p (replicate n 0))

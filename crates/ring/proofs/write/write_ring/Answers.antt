@@ -3,7 +3,7 @@ use Rattle.std.proofs.Common.{◌≡◌, List, [], ◌∷◌, ℕ, length, drop,
 use Rattle.std.specs.Slice.Iter.{chunks_rest}
 use Rattle.ring.specs.Ring.{ring_write}
 use Rattle.ring.proofs.Writing.{write_none}
-use Rattle.ring.proofs.Segments.{write_first, write_next}
+use Rattle.ring.proofs.Segments.{alone_first, alone_next}
 use Rattle.ring.proofs.write.write_ring.Goals as goal
 
 -- where nothing is left to write, the ring is as it is
@@ -20,7 +20,7 @@ loop-part-init c =
       ring =
           let back : chunks_rest c.chunks-part-items.result ≡ drop c.min.result a.buf.now = k.rest ∙ c.split_at.ensures.back in
           rw (c.into_iter-part-iterator.ensures.into_iter_gives, back, c.put.ensures, c.split_at.ensures.front, c.min.ensures)
-          (write_first a.ring.now a.logical_pos c.reduced-at.result a.buf.now c.requires c.reduced-at.ensures.0);
+          (alone_first a.ring.now a.logical_pos c.reduced-at.result a.buf.now c.requires c.reduced-at.ensures.0);
     }
 
 pub loop-part-preserved : goal.loop-part-preserved
@@ -31,7 +31,7 @@ loop-part-preserved c =
       size = s.0 ∙ i.size;
       ring =
           rw c.copy_into.ensures
-          (write_next _ c.loop-part.ring c.in-Some.part.now (chunks_rest c.next.new.self) (chunks_rest c.loop-part.part-iterator) s.1.0 (rw i.size at s.1.1)
+          (alone_next _ c.loop-part.ring c.in-Some.part.now (chunks_rest c.next.new.self) (chunks_rest c.loop-part.part-iterator) s.1.0 (rw i.size at s.1.1)
           ∙ i.ring);
     }
 
