@@ -1,14 +1,16 @@
 -- The laws of a relocation: what it leaves as it was, and that a longer ring then reads on as the shorter one did. Assumes nothing.
-use mathlib.Core.Path.{◌≡◌, ap, ◌∙◌}
-use mathlib.Core.List.{List}
+use mathlib.Core.Path.{◌≡◌, sym, ap, ◌∙◌}
+use mathlib.Core.List.{List, ◌++◌}
 use Prim.Native.Nat.{ℕ, ◌+◌, ◌-◌, ◌%◌, ◌≤◌, ◌<◌}
+use native.Mathlib.Nat.{add-zero}
 use native.Mathlib.Decide.{dec_le}
 use native.Mathlib.Omega.{arith}
-use lib.ListN.{length, get_or}
-use lib.Seq.{length-sets}
+use lib.ListN.{length, get_or, take, drop}
+use lib.Seq.{length-sets, length-take-le}
+use Rattle.std.proofs.lemmas.List.{get_or-take}
 use Rattle.wire.specs.Wire.{Bytes, bytes_at, put_at}
-use Rattle.wire.proofs.Numbers.{length-bytes_at, bytes-bytes_at, bytes_at_same, bytes_at-append, get_d_bytes_at}
-use Rattle.wire.proofs.Stores.{put_at-append, put_at-before, put_at-after, put_at-within, put_at-bytes}
+use Rattle.wire.proofs.Numbers.{cut_mid, bytes_at_part, length-bytes_at, bytes-bytes_at, bytes_at_same, bytes_at-append, get_d_bytes_at}
+use Rattle.wire.proofs.Stores.{put_at_part, put_at-append, put_at-before, put_at-after, put_at-within, put_at-bytes}
 use Rattle.ring.specs.Ring.{ring_read, relocated}
 use Rattle.ring.proofs.Places.{turn_low, turn_high}
 use Rattle.ring.proofs.Reading.{read_ext}
@@ -55,3 +57,15 @@ relocate_on start img old k c f =
     ap (put_at img old) (bytes_at-append k c img start)
     ∙ put_at-append img old (bytes_at k img start) (bytes_at c img (start + k))
     ∙ rw (length-bytes_at k img start, ← kept)
+
+-- the image lent in two parts, the file and the room behind it: what is copied into the room
+pub relocated_lent : (start : ℕ) (img : List ℕ) (to len : ℕ) → start + len ≤ to → to ≤ length img
+    → relocated start img to len ≡ take to img ++ put_at (drop to img) 0 (take (start + len - start) (drop start (take to img)))
+relocated_lent start img to len f h =
+    let front : List ℕ = take to img in
+    let long : length front ≡ to = length-take-le to img h in
+    let part : take (start + len - start) (drop start front) ≡ bytes_at len img start =
+    cut_mid start len front
+    ∙ sym (bytes_at_part len front start (omega arith))
+    ∙ bytes_at_same len front img start (λ i l. get_or-take to img (start + i) 0 (omega arith)) in
+    sym (rw part (put_at_part img to 0 (bytes_at len img start) ∙ rw add-zero))

@@ -9,6 +9,7 @@ use refusal::Refusal;
 
 // Copies len bytes of the image from `start` on to `to`, which lies behind them: the image is lent in two parts, so no buffer is
 // beside len.
+#[tactic(auto, using(crate::proofs::Relocating::relocated_lent))]
 fn relocate_bytes(image: &mut [u8], start: usize, to: usize, len: usize)
     requires { (start + len ≤ to) × (to + len ≤ length image.old) }
     ensures { image.new ≡ relocated start image.old to len }

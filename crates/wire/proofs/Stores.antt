@@ -119,11 +119,13 @@ put_at_room out at (suc k) [] e = refl
 put_at_room out at zero (b ∷ src) e = sym (put_at_out out at (b ∷ src) (omega arith))
 put_at_room out at (suc k) (b ∷ src) e = put_at_room (set out at b) (suc at) k src (omega (arith, length-set out at b))
 
--- the first n bytes take the place of as many, where n is all that there are or all that there is room for
-pub put_at_front : (out src : List ℕ) (n : ℕ) → n ≡ min (length out) (length src) → take n src ++ drop n out ≡ put_at out 0 src
-put_at_front out src n e =
+-- the first bytes take the place of as many: all that there are, or all that there is room for. In this form the check finds a store of
+-- nothing too
+pub put_at_front : (out src : List ℕ) → put_at out 0 src ≡ take (min (length out) (length src)) src ++ drop (min (length out) (length src)) out
+put_at_front out src =
+    let n : ℕ = min (length out) (length src) in
     let count : length (take n src) ≡ n = length-take-le n src (omega arith) in
-    rw (count, zero-add) at (sym (sets-eq (take n src) out 0 (omega arith))) ∙ put_at_room out 0 n src (omega arith)
+    sym (rw (count, zero-add) at (sym (sets-eq (take n src) out 0 (omega arith))) ∙ put_at_room out 0 n src (omega arith))
 
 -- what a part of k bytes that is lent comes back with, once it is filled, is a store of n in the whole, where k are enough
 pub put_at_filled : (out : List ℕ) (at k n v : ℕ) → at + k ≤ length out → k ≡ min n (length out - at) →
