@@ -6,11 +6,16 @@ use std::io;
 use std::io::Write;
 
 // Runs every line. What stands behind the last newline is a line if it has bytes.
-pub fn run_script<W: Write>(out: &mut W, script: &[u8], bench: &mut Bench) -> io::Result<()> {
-    for line in script.split(|byte| *byte == b'\n') {
+pub fn run_script<W: Write>(out: &mut W, text: &[u8], bench: &mut Bench) -> io::Result<()> {
+    // By `line_end` and not by `split`: where a line ends is what that function promises.
+    let mut start = 0;
+    while start < text.len() {
+        let end = script::line_end(text, start);
+        let line = &text[start..end];
         if !is_silent(line) {
             run_line(out, line, bench)?;
         }
+        start = end + 1;
     }
     Ok(())
 }
