@@ -176,6 +176,11 @@ window_step l i x h =
 window_reach : (l : List ℕ) (i : ℕ) → reach (take 300 (drop i l)) 0 ≡ reach l i
 window_reach l i = reach-take 300 (drop i l) 0 (omega arith) ∙ reach-from l i
 
+-- the byte at j goes in
+byte_in_lem : (bs : List ℕ) (j s : ℕ) → j < length bs → bytes_in (shifts 8 (bit_xor s (get_or bs j 0))) (drop (suc j) bs) ≡ bytes_in s (drop j bs)
+unfolding bytes_in byte_in
+byte_in_lem bs j s h = sym (ap (bytes_in s) (drop-cons bs j 0 h))
+
 bytes_snoc : (r : ℕ) (bs : List ℕ) (x : ℕ) → bytes_in r (bs ++ (x ∷ [])) ≡ shifts 8 (bit_xor (bytes_in r bs) x)
 unfolding bytes_in byte_in
 bytes_snoc r bs x = bytes-append r bs (x ∷ [])
@@ -203,10 +208,9 @@ slid l n h =
 -- ---- the list that `mixed` makes
 
 -- one more byte is mixed with what is added to it
-mixed_turn : (bs l m : List ℕ) (i : ℕ) → i < length m → i < length bs → get_or m i 0 ≡ bit_xor (reach l i) (get_or bs i 0)
+pub mixed_turn : (bs l m : List ℕ) (i : ℕ) → i < length m → i < length bs → get_or m i 0 ≡ bit_xor (reach l i) (get_or bs i 0)
     → bytes_in (bit_xor (bytes_in 0 (take (suc i) m)) (spread (drop (suc i) l))) (drop (suc i) bs)
     ≡ bytes_in (bit_xor (bytes_in 0 (take i m)) (spread (drop i l))) (drop i bs)
-unfolding bytes_in byte_in
 mixed_turn bs l m i h g e =
     let w = get_or bs i 0 in
     let q = bytes_in 0 (take i m) in
@@ -216,9 +220,8 @@ mixed_turn bs l m i h g e =
     ∙ bytes_snoc 0 (take i m) (get_or m i 0) ∙ ap (shifts 8) (ap (bit_xor q) e ∙ sym (xor_assoc q (reach l i) w)) in
     ap (λ (k : ℕ). bytes_in (bit_xor (bytes_in 0 (take (suc i) m)) (spread (drop k l))) (drop (suc i) bs)) (sym (add-one i))
     ∙ ap (λ (r : ℕ). bytes_in r (drop (suc i) bs)) (ap (λ (y : ℕ). bit_xor y t) q' ∙ sym (word_met 8 q (reach l i) w t))
-    ∙ sym
-    (ap (λ (r : ℕ). bytes_in (bit_xor q r) (drop i bs)) (spread-from l i)
-    ∙ ap (bytes_in (bit_xor q (above 8 (reach l i) t))) (drop-cons bs i 0 g))
+    ∙ byte_in_lem bs i (bit_xor q (above 8 (reach l i) t)) g
+    ∙ ap (λ (r : ℕ). bytes_in (bit_xor q r) (drop i bs)) (sym (spread-from l i))
 
 -- and i of them
 mixed_so_far : (bs l m : List ℕ) (n : ℕ) → length m ≡ n → length bs ≡ n → ((k : ℕ) → k < n → get_or m k 0 ≡ bit_xor (reach l k) (get_or bs k 0)) → (i : ℕ) → i ≤ n
@@ -300,11 +303,17 @@ four_bytes s bs h e =
 
 -- ---- the blocks, and the last bytes behind them
 
--- one more block has left: l is the list behind its bytes, and m what `slide` makes of it
-pub block_left : (bs done block rest next last l m : List ℕ) (p s : ℕ) → bs ≡ done ++ (rest ++ last) → rest ≡ block ++ next
+-- a block has left: k is the list behind its bytes, and m what `slide` makes of it
+pub block_left : (bs l k m : List ℕ) (at n x : ℕ) → m ≡ take 300 (drop n k)
+    → bytes_in (spread (take 300 (drop n k))) (drop (at + n) bs) ≡ bytes_in (spread l) (drop at bs) → bytes_in (spread l) (drop at bs) ≡ x
+    → bytes_in (spread m) (drop (at + n) bs) ≡ x
+block_left bs l k m at n x e p q = ap (λ (y : List ℕ). bytes_in (spread y) (drop (at + n) bs)) e ∙ p ∙ q
+
+-- and one more of those that the part is cut into: l is the list behind its bytes, and m what `slide` makes of it
+pub next_left : (bs done block rest next last l m : List ℕ) (p s : ℕ) → bs ≡ done ++ (rest ++ last) → rest ≡ block ++ next
     → Same 300 p (bytes_in s done) → Same 300 (spread l) (bytes_in p block) → m ≡ l
     → (ys : List ℕ) × (bs ≡ ys ++ (next ++ last)) × Same 300 (spread m) (bytes_in s ys)
-block_left bs done block rest next last l m p s e f same left g = (
+next_left bs done block rest next last l m p s e f same left g = (
   done ++ block,
   e ∙ ap (λ (z : List ℕ). done ++ z) (ap (λ (z : List ℕ). z ++ last) f ∙ append_assoc block next last) ∙ sym (append_assoc done block (next ++ last)),
   same_more 300 p (spread m) (bytes_in s done) (bytes_in s (done ++ block)) block same (λ ys h. ap (λ (z : List ℕ). bytes_in (spread z) ys) g ∙ left ys h)

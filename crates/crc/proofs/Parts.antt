@@ -142,13 +142,18 @@ number_lt n [] h l = pow_pos (n * 8)
 number_lt zero (b ∷ bs) h l = absurd (not-suc-le-zero l)
 number_lt (suc n) (b ∷ bs) h l = rw (suc-mul n 8, pow-add 2 (n * 8) 8) (digits_lt (number_lt n bs h.1 (le_of_suc-le-suc l)) h.0)
 
+-- one byte more, at the low end
+pub byte_before : (bs : List ℕ) (k n w b : ℕ) → k ≡ suc n → n < length bs → w ≡ le (drop k bs) → b ≡ get_or bs n 0 → w * 256 + b ≡ le (drop n bs)
+byte_before bs k n w b e h p q =
+    ap₂ (λ (x y : ℕ). x * 256 + y) (p ∙ ap (λ (m : ℕ). le (drop m bs)) e) q ∙ sym (ap le (drop-cons bs n 0 h))
+
 -- the byte b is read after those behind it
 module _ (bs xs ys : List ℕ) (b w : ℕ) (e : bs ≡ (xs ++ (b ∷ [])) ++ ys) (f : w ≡ le ys) where
   from_back : bs ≡ xs ++ (b ∷ ys)
   from_back = e ∙ append_assoc xs (b ∷ []) ys
 
-  pub byte_before : (x : ℕ) → x ≡ b → (zs : List ℕ) × (bs ≡ xs ++ zs) × (w * 256 + x ≡ le zs)
-  byte_before x g = (b ∷ ys, from_back, ap₂ (λ (y z : ℕ). y * 256 + z) f g)
+  pub byte_read : (x : ℕ) → x ≡ b → (zs : List ℕ) × (bs ≡ xs ++ zs) × (w * 256 + x ≡ le zs)
+  byte_read x g = (b ∷ ys, from_back, ap₂ (λ (y z : ℕ). y * 256 + z) f g)
 
   -- there is room for it
   pub room_before : ((j : ℕ) → get_or bs j 0 < 256) → length bs < 8 → (b < 256) × (w < 2 ^ 48)

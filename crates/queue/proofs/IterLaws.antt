@@ -15,7 +15,7 @@ use Rattle.format.specs.declared.element.V2ElementHeader.{V2ElementHeader}
 use Rattle.refusal.specs.Answer.{on_ok}
 use Rattle.queue.specs.Element.{capacity, header_at, footer_verdict, element_here, Lies}
 use Rattle.queue.specs.State.{sound}
-use Rattle.queue.specs.Iter.{step_here, step_on, judge_step}
+use Rattle.queue.specs.Iter.{step_here, step_on, judge_step, stepped_output}
 use Rattle.queue.specs.declared.state.QueueFile.{QueueFile}
 use Rattle.queue.specs.declared.iter.Cursor.{Cursor}
 use Rattle.queue.specs.declared.iter.Step.{Step}
@@ -71,3 +71,10 @@ step_known q img c room s e =
     let a = granted (sound q (length img)) _ _ _ refused e in
     let b = granted (ltb p (capacity file)) (Err Unsound) on _ refused (not_end (leb q.elem_cnt c.next_elem_index) placed s a.1) in
     on_known q img c room s (header_at img file p) a.0 (ltb-true _ _ b.0) refl b.1
+
+-- ---- none: the answer has no element
+
+pub none_output : (t : Result (Option Step) Refusal) (img : List ℕ) (file : ℕ) (out : List ℕ) → ((s : Step) → t ≡ Ok (Some s) → ⊥) → out ≡ stepped_output t img file out
+none_output (Ok (Some s)) img file out k = absurd (k s refl)
+none_output (Ok None) img file out k = refl
+none_output (Err r) img file out k = refl

@@ -9,3 +9,4 @@ pub mod OpenLaws
 pub mod Trail
 pub mod PeekLaws
 pub mod IterLaws
+pub mod ByHand

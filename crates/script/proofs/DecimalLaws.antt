@@ -31,7 +31,7 @@ unfolding value_onto
 value_grows n [] = omega arith
 value_grows n (b ∷ s) = omega (arith, value_grows (n * 10 + worth_of b) s)
 
-number_large : (n : ℕ) (s : List ℕ) → 2 ^ 64 ≤ n → goes_on n s ≡ None
+pub number_large : (n : ℕ) (s : List ℕ) → 2 ^ 64 ≤ n → goes_on n s ≡ None
 unfolding goes_on
 number_large n s h = rw (le-ltb (value_onto n s) (2 ^ 64) (omega (arith, value_grows n s)), and-false)
 

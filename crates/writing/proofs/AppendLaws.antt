@@ -1,5 +1,6 @@
 -- What is known of an element that goes behind last: its place is in the ring, and a state that it is put into can be stored. Assumes
 -- nothing.
+use mathlib.Core.Path.{◌≡◌}
 use mathlib.Core.List.{List}
 use Prim.Native.Nat.{ℕ, ◌+◌, ◌^◌, ◌<◌}
 use native.Mathlib.Nat.{mod-lt}
@@ -14,6 +15,23 @@ use Rattle.writing.specs.Commit.{Storable}
 use Rattle.writing.specs.Growth.{end_of_last}
 use Rattle.writing.specs.Adding.{next_place, appended, Extends}
 use Rattle.writing.proofs.Choices.{either}
+use Rattle.writing.proofs.StateLaws.{own_lies}
+
+-- ---- the file itself is image enough
+
+pub own_extends : (q : QueueFile) (len : ℕ) → Extends len q → Extends q.file_len q
+own_extends q len e =
+    record {
+      some = e.some;
+      inside = omega arith;
+      small = e.small;
+      count = e.count;
+      sequence = e.sequence;
+      generation = e.generation;
+      first = e.first;
+      place = e.place;
+      last = λ (k : q.elem_cnt ≡ 0 → ⊥). own_lies len q.file_len q.last (e.last k);
+    }
 
 -- ---- its place
 

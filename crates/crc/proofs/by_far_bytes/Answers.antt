@@ -7,7 +7,7 @@ use lib.ListN.{length, take, take-append-drop}
 use Rattle.std.specs.Slice.Iter.{chunks_size, chunks_rest}
 use Rattle.crc.specs.Crc.{bytes_in}
 use Rattle.crc.specs.Words.{spread}
-use Rattle.crc.proofs.Far.{block_left, blocks_done}
+use Rattle.crc.proofs.Far.{next_left, blocks_done}
 use Rattle.crc.proofs.by_far_bytes.Goals as goal
 
 pub loop-block-init : goal.loop-block-init
@@ -28,7 +28,7 @@ pub loop-block-preserved : goal.loop-block-preserved
 loop-block-preserved c =
     let i = c.loop-block.invariant in
     let e = c.in-Some.ensures.steps in
-    let left = block_left c.args.part.now i.1 c.in-Some.block.now (chunks_rest c.loop-block.block-iterator) (chunks_rest c.next.new.self) c.split_at.result.1.now _ _ (spread (take 300 c.loop-block.far)) c.args.state i.2 e.1.0 i.3 c.fill.ensures c.slide.ensures in
+    let left = next_left c.args.part.now i.1 c.in-Some.block.now (chunks_rest c.loop-block.block-iterator) (chunks_rest c.next.new.self) c.split_at.result.1.now _ _ (spread (take 300 c.loop-block.far)) c.args.state i.2 e.1.0 i.3 c.fill.ensures c.slide.ensures in
     (e.0 ∙ i.0, left.0, left.1, left.2)
 
 pub returns : goal.returns
